@@ -1,0 +1,26 @@
+-- The laws of the bytes from an address on.
+use Rattle.std.proofs.Common.{◌≡◌, ℕ, zero, suc, ◌+◌, ◌<◌, List, [], ◌∷◌, ◌++◌, length, Option, refl, sym, ◌∙◌, ap, arith}
+use Rattle.layer_base.specs.AddressSpace.{AddressSpace, bytes_from}
+
+pub length-bytes_from : (memory : AddressSpace) (at n : ℕ) → length (bytes_from memory at n) ≡ n
+unfolding bytes_from
+length-bytes_from memory at zero = refl
+length-bytes_from memory at (suc n) = ap suc (length-bytes_from memory (at + 1) n)
+
+pub bytes_from-add : (memory : AddressSpace) (at n k : ℕ) → bytes_from memory at (n + k) ≡ bytes_from memory at n ++ bytes_from memory (at + n) k
+unfolding bytes_from
+bytes_from-add memory at zero k = ap (λ (m : ℕ). bytes_from memory at m) (omega arith) ∙ ap (λ a. bytes_from memory a k) (omega arith)
+bytes_from-add memory at (suc n) k =
+    let more : suc n + k ≡ suc (n + k) = omega arith in
+    let place : at + 1 + n ≡ at + suc n = omega arith in
+    ap (bytes_from memory at) more
+    ∙ ap (λ l. memory at ∷ l) (bytes_from-add memory (at + 1) n k ∙ ap (λ a. bytes_from memory (at + 1) n ++ bytes_from memory a k) place)
+
+-- memories that agree at each of the addresses
+pub bytes_from-same : (memory other : AddressSpace) (at n : ℕ) → ((k : ℕ) → k < n → memory (at + k) ≡ other (at + k)) → bytes_from memory at n ≡ bytes_from other at n
+unfolding bytes_from
+bytes_from-same memory other at zero same = refl
+bytes_from-same memory other at (suc n) same =
+    let here : memory at ≡ other at = let zero_more : at + 0 ≡ at = omega arith in rw zero_more at (same 0 (omega arith)) in
+    let rest : (k : ℕ) → k < n → memory (at + 1 + k) ≡ other (at + 1 + k) = λ k below. let place : at + 1 + k ≡ at + suc k = omega arith in rw place (same (suc k) (omega arith)) in
+    λ i. here i ∷ bytes_from-same memory other (at + 1) n rest i

@@ -1,0 +1,4 @@
+pub mod Appending
+pub mod BytesFrom
+pub mod Counting
+pub mod Played

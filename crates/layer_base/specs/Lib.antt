@@ -1,0 +1,6 @@
+pub mod AddressSpace
+pub mod Counts
+pub mod Known
+pub mod Memory
+pub mod Run
+pub mod View

@@ -1,0 +1,24 @@
+//! What everything above stands on: the objects of the outside (devices, sources, sinks and layers of an image)
+//! as traits with contracts, the meaning of an image as a function from addresses to bytes, and objects in memory
+//! that keep these contracts.
+#![tactic(auto)]
+
+mod device;
+mod layer;
+mod memory;
+mod name;
+mod path_word;
+mod segment;
+mod sink;
+mod source;
+mod steps;
+
+pub use device::{Device, Failed};
+pub use layer::{DeviceFailed, Kind, Layer, Run};
+pub use memory::{MemDevice, MemSink, MemSource};
+pub use name::Name;
+pub use path_word::PathWord;
+pub use segment::Segment;
+pub use sink::{Sink, SinkFault, write_whole};
+pub use source::Source;
+pub use steps::Steps;
