@@ -1,5 +1,5 @@
 -- The laws of the bytes from an address on.
-use Rattle.std.proofs.Common.{◌≡◌, ℕ, zero, suc, ◌+◌, ◌<◌, List, [], ◌∷◌, ◌++◌, length, Option, refl, sym, ◌∙◌, ap, arith}
+use Rattle.std.proofs.Common.{◌≡◌, ℕ, zero, suc, ◌+◌, ◌<◌, List, [], ◌∷◌, ◌++◌, length, replicate, Option, None, refl, sym, ◌∙◌, ap, arith}
 use Rattle.layer_base.specs.AddressSpace.{AddressSpace, bytes_from}
 
 pub length-bytes_from : (memory : AddressSpace) (at n : ℕ) → length (bytes_from memory at n) ≡ n
@@ -24,3 +24,12 @@ bytes_from-same memory other at (suc n) same =
     let here : memory at ≡ other at = let zero_more : at + 0 ≡ at = omega arith in rw zero_more at (same 0 (omega arith)) in
     let rest : (k : ℕ) → k < n → memory (at + 1 + k) ≡ other (at + 1 + k) = λ k below. let place : at + 1 + k ≡ at + suc k = omega arith in rw place (same (suc k) (omega arith)) in
     λ i. here i ∷ bytes_from-same memory other (at + 1) n rest i
+
+-- a hole
+pub bytes_from-absent : (memory : AddressSpace) (at n : ℕ) → ((k : ℕ) → k < n → memory (at + k) ≡ None) → bytes_from memory at n ≡ replicate n None
+unfolding bytes_from
+bytes_from-absent memory at n absent = bytes_from-same memory (λ a. None) at n absent ∙ holes at n
+  where
+    holes : (at n : ℕ) → bytes_from (λ a. None) at n ≡ replicate n None
+    holes at zero = refl
+    holes at (suc n) = ap (λ l. None ∷ l) (holes (at + 1) n)

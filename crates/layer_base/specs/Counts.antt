@@ -1,9 +1,9 @@
 -- Counts that never fall, and what an answer says of them.
-use Rattle.std.specs.Prelude.{ℕ, ◌+◌, ◌-◌, ◌^◌, ◌≤◌, min}
+use Rattle.std.specs.Prelude.{ℕ, ◌+◌, ◌-◌, ◌^◌, ◌≤◌, max, min}
 
 -- one more, but for a count that stands at the last value of its type
 abbrev pub next_count : ℕ → ℕ
-next_count n = min (n + 1) (2 ^ 64 - 1)
+next_count n = max n (min (n + 1) (2 ^ 64 - 1))
 
 -- the count went up, or stands at the last value of its type
 abbrev pub Rose : ℕ → ℕ → Type 0
