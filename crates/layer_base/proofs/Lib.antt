@@ -1,4 +1,5 @@
 pub mod Appending
 pub mod BytesFrom
 pub mod Counting
+pub mod Physical
 pub mod Played

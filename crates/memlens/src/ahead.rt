@@ -1,0 +1,59 @@
+//! Bytes that were read ahead, so that a read of one byte does not cost a call of the system.
+ghost use Rattle.std.specs.Prelude.{◌≤◌, length, IfOk};
+
+use crate::calls::read_next;
+use std::io::{self, Read};
+
+const ROOM: usize = 8192;
+
+/// What was read and not yet taken is `bytes[start..end]`.
+#[derive(Drop)]
+pub struct Ahead {
+    bytes: [u8; ROOM],
+    start: usize,
+    end: usize,
+    ghost ordered: { start ≤ end },
+    ghost in_bounds: { end ≤ 8192 },
+}
+
+impl Ahead {
+    pub fn new() -> Ahead {
+        Ahead {
+            bytes: [0; ROOM],
+            start: 0,
+            end: 0,
+        }
+    }
+
+    /// Gives the buffer what was read ahead, or, where nothing is left of it, makes one call. A buffer that is larger
+    /// than the room here is filled by that call itself.
+    pub fn read<F: Read>(&mut self, file: &mut F, buf: &mut [u8]) -> io::Result<usize>
+        ensures { IfOk result (λ n. n ≤ length buf.old) }
+    {
+        if self.start < self.end {
+            return Ok(self.take(buf));
+        }
+        if buf.len() >= ROOM {
+            return read_next(file, buf);
+        }
+        self.fill(file)?;
+        Ok(self.take(buf))
+    }
+
+    fn fill<F: Read>(&mut self, file: &mut F) -> io::Result<()> {
+        self.start = 0;
+        self.end = 0;
+        let n = read_next(file, &mut self.bytes)?;
+        self.end = n;
+        Ok(())
+    }
+
+    fn take(&mut self, buf: &mut [u8]) -> usize
+        ensures { result ≤ length buf.old }
+    {
+        let n = buf.len().min(self.end - self.start);
+        buf[..n].copy_from_slice(&self.bytes[self.start..self.start + n]);
+        self.start += n;
+        n
+    }
+}
