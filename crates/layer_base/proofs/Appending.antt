@@ -35,3 +35,35 @@ pub front-further : (piece done rest : List ℕ) (n : ℕ) → piece ≡ done ++
 front-further piece done rest n split =
     split ∙ ap (λ (l : List ℕ). done ++ l) (sym (take-append-drop n rest)) ∙ sym (append_assoc done (take n rest) (drop n rest))
     ∙ ap (λ (l : List ℕ). (done ++ take n rest) ++ l) (sym (take_rest rest n))
+
+-- a text that starts so goes on
+pub StartsWith-split : (text front : List ℕ) → StartsWith text front → text ≡ front ++ drop (length front) text
+StartsWith-split text front starts = sym (take-append-drop (length front) text) ∙ ap (λ (l : List ℕ). l ++ drop (length front) text) starts
+
+pub StartsWith-from : (text front rest : List ℕ) → text ≡ front ++ rest → StartsWith text front
+StartsWith-from text front rest split = ap (take (length front)) split ∙ StartsWith-front front rest
+
+pub StartsWith-same : (text : List ℕ) → StartsWith text text
+StartsWith-same text = StartsWith-from text text [] (sym (append-nil text))
+
+pub StartsWith-trans : (text front first : List ℕ) → StartsWith text front → StartsWith front first → StartsWith text first
+StartsWith-trans text front first starts begins =
+    StartsWith-from text first (drop (length first) front ++ drop (length front) text) (
+      StartsWith-split text front starts ∙ ap (λ (l : List ℕ). l ++ drop (length front) text) (StartsWith-split front first begins)
+      ∙ append_assoc first (drop (length first) front) (drop (length front) text)
+    )
+
+-- a front of what stands behind a text
+pub StartsWith-behind : (before text front : List ℕ) → StartsWith text front → StartsWith (before ++ text) (before ++ front)
+StartsWith-behind before text front starts =
+    StartsWith-from (before ++ text) (before ++ front) (drop (length front) text) (
+      ap (λ (l : List ℕ). before ++ l) (StartsWith-split text front starts) ∙ sym (append_assoc before front (drop (length front) text))
+    )
+
+-- a prefix of a text, behind what was appended before
+pub AppendsPrefix-behind : (old mid new : Option (List ℕ)) (xs ys text : List ℕ) → Appends old mid xs → AppendsPrefix mid new ys → StartsWith text (xs ++ ys) → AppendsPrefix old new text
+AppendsPrefix-behind old mid new xs ys text first second starts = (
+  xs ++ second.0,
+  Appends-append old mid new xs second.0 first second.1,
+  StartsWith-trans text (xs ++ ys) (xs ++ second.0) starts (StartsWith-behind xs ys second.0 second.2),
+)

@@ -7,6 +7,10 @@ unfolding bytes_from
 length-bytes_from memory at zero = refl
 length-bytes_from memory at (suc n) = ap suc (length-bytes_from memory (at + 1) n)
 
+pub bytes_from-none : (memory : AddressSpace) (at : ℕ) → bytes_from memory at 0 ≡ []
+unfolding bytes_from
+bytes_from-none memory at = refl
+
 pub bytes_from-add : (memory : AddressSpace) (at n k : ℕ) → bytes_from memory at (n + k) ≡ bytes_from memory at n ++ bytes_from memory (at + n) k
 unfolding bytes_from
 bytes_from-add memory at zero k = ap (λ (m : ℕ). bytes_from memory at m) (omega arith) ∙ ap (λ a. bytes_from memory a k) (omega arith)

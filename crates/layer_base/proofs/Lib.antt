@@ -1,5 +1,6 @@
 pub mod Appending
 pub mod BytesFrom
 pub mod Counting
+pub mod Layers
 pub mod Physical
 pub mod Played

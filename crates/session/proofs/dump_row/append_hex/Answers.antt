@@ -1,0 +1,9 @@
+use Rattle.std.proofs.Common.{◌≡◌, ◌+◌, ◌-◌, ◌++◌, [], ◌∷◌, List, ℕ, sym, ◌∙◌, ap, arith, append_assoc}
+use Rattle.session.proofs.Rows.{hex_digits-next}
+use Rattle.session.proofs.dump_row.append_hex.Goals as goal
+
+pub loop-done-preserved : goal.loop-done-preserved
+loop-done-preserved c =
+    let text = c.loop-done.text.items in
+    let next = hex_digits-next c.args.digits c.loop-done.done c.args.value c.loop-done-test.true in
+    rw (c.in_ok-push.ensures.items, c.hex_digit.ensures, append_assoc) (ap (λ l. text ++ l) (sym next) ∙ c.loop-done.invariant)

@@ -1,0 +1,7 @@
+use Rattle.std.proofs.Common.{◌≡◌, ◌-◌, ◌++◌}
+use Rattle.session.specs.DumpRow.{hex_digits}
+use Rattle.session.proofs.dump_row.append_hex.Given as goal
+
+-- the digits so far and those that are left are all digits
+abbrev pub invariant-loop-done : goal.invariant-loop-done
+invariant-loop-done l = l.text.items ++ hex_digits (l.digits - l.done) l.value ≡ l.fn.text.items ++ hex_digits l.digits l.value

@@ -1,0 +1,7 @@
+use Rattle.std.proofs.Common.{rules, append_assoc}
+use Rattle.session.specs.DumpRow.{dump_row}
+use Rattle.session.proofs.dump_row.append_row.Goals as goal
+
+pub returns : goal.returns
+unfolding dump_row
+returns c = simp (c.in_ok-push-2.ensures.items, c.in_ok-append_characters.ensures, c.in_ok-extend_from_slice-2.ensures.items, c.in_ok-append_cells.ensures, c.in_ok-push.ensures.items, c.in_ok-append_hex.ensures, c.in_ok-extend_from_slice.ensures.items, append_assoc)

@@ -1,0 +1,9 @@
+pub mod DumpRow
+pub mod Headline
+pub mod Line
+pub mod Lines
+pub mod Read
+pub mod Run
+pub mod Script
+pub mod Status
+pub mod Words

@@ -1,0 +1,39 @@
+-- The numbers of the statuses, and the status that a fault leads to.
+use Rattle.std.specs.Prelude.{ℕ}
+use Rattle.layer_base.specs.declared.sink.SinkFault.{SinkFault}
+use Rattle.layer_base.specs.declared.sink.SinkFault.TheVariants as sink
+use Rattle.session.specs.declared.status.Status.{Status}
+use Rattle.session.specs.declared.status.Status.TheVariants as status
+use Rattle.session.specs.declared.status.CommandFault.{CommandFault}
+use Rattle.session.specs.declared.status.CommandFault.TheVariants as fault
+
+abbrev pub number_of_status : Status → ℕ
+number_of_status status.Ok = 0
+number_of_status status.Usage = 2
+number_of_status status.ImageRefused = 3
+number_of_status status.SymbolsRefused = 4
+number_of_status status.ImageFault = 5
+number_of_status status.SymbolsFault = 6
+number_of_status status.ScriptFault = 7
+number_of_status status.OutFault = 8
+number_of_status status.DumpFault = 9
+number_of_status status.ScriptTooLong = 10
+number_of_status status.Memory = 11
+
+-- a status that says what the script came to, and not that something failed or was wanting
+abbrev pub IsAnswer : Status → Type 0
+IsAnswer status.Ok = Unit {0}
+IsAnswer status.Usage = Unit {0}
+IsAnswer status.ImageRefused = Unit {0}
+IsAnswer status.SymbolsRefused = Unit {0}
+IsAnswer status.ScriptTooLong = Unit {0}
+IsAnswer _ = ⊥
+
+abbrev pub fault_of_sink : SinkFault → CommandFault
+fault_of_sink sink.Failed = fault.Out
+fault_of_sink sink.Memory = fault.Memory
+
+abbrev pub status_of_fault : CommandFault → Status
+status_of_fault fault.Image = status.ImageFault
+status_of_fault fault.Out = status.OutFault
+status_of_fault fault.Memory = status.Memory

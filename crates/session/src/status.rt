@@ -1,0 +1,102 @@
+//! How a run ends.
+ghost use Rattle.std.specs.Prelude.{◌≡◌};
+ghost use Rattle.session.specs.declared.status.CommandFault.TheVariants.{Image, Memory};
+ghost use Rattle.session.specs.Status.{fault_of_sink, status_of_fault, number_of_status};
+
+use layer_base::{DeviceFailed, SinkFault};
+use std::alloc::AllocError;
+
+/// How a run ended.
+#[derive(Clone, Copy, Debug, PartialEq, Eq)]
+pub enum Status {
+    /// The whole script was run.
+    Ok,
+    /// The words of the command line were refused.
+    Usage,
+    /// The image was refused.
+    ImageRefused,
+    /// The symbol file was refused.
+    SymbolsRefused,
+    /// A call on the image failed.
+    ImageFault,
+    /// A call on the symbol file failed.
+    SymbolsFault,
+    /// A call on the script failed.
+    ScriptFault,
+    /// A call on the output failed.
+    OutFault,
+    /// A call on the dump's file failed.
+    DumpFault,
+    /// The script has more bytes than are read.
+    ScriptTooLong,
+    /// Memory was wanting.
+    Memory,
+}
+
+impl Status {
+    /// The number that the program ends with.
+    pub fn number(self) -> u8
+        ensures { result ≡ number_of_status self }
+    {
+        match self {
+            Status::Ok => 0,
+            Status::Usage => 2,
+            Status::ImageRefused => 3,
+            Status::SymbolsRefused => 4,
+            Status::ImageFault => 5,
+            Status::SymbolsFault => 6,
+            Status::ScriptFault => 7,
+            Status::OutFault => 8,
+            Status::DumpFault => 9,
+            Status::ScriptTooLong => 10,
+            Status::Memory => 11,
+        }
+    }
+}
+
+/// Why a command was cut short.
+#[derive(Clone, Copy, Debug, PartialEq, Eq)]
+pub(crate) enum CommandFault {
+    Image,
+    Out,
+    Memory,
+}
+
+impl CommandFault {
+    pub(crate) fn status(self) -> Status
+        ensures { result ≡ status_of_fault self }
+    {
+        match self {
+            CommandFault::Image => Status::ImageFault,
+            CommandFault::Out => Status::OutFault,
+            CommandFault::Memory => Status::Memory,
+        }
+    }
+}
+
+impl From<DeviceFailed> for CommandFault {
+    ghost from_gives = { λ _ fault. fault ≡ Image };
+
+    fn from(_: DeviceFailed) -> Self {
+        CommandFault::Image
+    }
+}
+
+impl From<AllocError> for CommandFault {
+    ghost from_gives = { λ _ fault. fault ≡ Memory };
+
+    fn from(_: AllocError) -> Self {
+        CommandFault::Memory
+    }
+}
+
+impl From<SinkFault> for CommandFault {
+    ghost from_gives = { λ sink fault. fault ≡ fault_of_sink sink };
+
+    fn from(fault: SinkFault) -> Self {
+        match fault {
+            SinkFault::Failed => CommandFault::Out,
+            SinkFault::Memory => CommandFault::Memory,
+        }
+    }
+}
