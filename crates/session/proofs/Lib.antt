@@ -1,3 +1,9 @@
+pub mod Ending
+pub mod Whole
+pub mod Underway
+pub mod Clipped
+pub mod Texts
+pub mod Cutting
 pub mod Cells
 pub mod Commands
 pub mod Numbers

@@ -2,8 +2,10 @@ pub mod DumpRow
 pub mod Headline
 pub mod Line
 pub mod Lines
+pub mod Ran
 pub mod Read
 pub mod Run
 pub mod Script
 pub mod Status
+pub mod Turn
 pub mod Words

@@ -61,3 +61,8 @@ command_of_words _ = Err Unknown
 -- what a line says; one that is too long says nothing else, whatever stands in it
 abbrev pub command_of : List ℕ → Result Command LineFault
 command_of line = if nat_lt MAX_LINE (length line) then Err TooLong else command_of_words (words_of line)
+
+-- a read ends at or below the last address
+abbrev pub EndsInRange : Command → Type 0
+EndsInRange Nothing = Unit {0}
+EndsInRange (Read at len) = at + len ≤ 2 ^ 64

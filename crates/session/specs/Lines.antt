@@ -18,10 +18,11 @@ abbrev pub cut_lines : List ℕ → Lines
 cut_lines [] = record { whole = []; rest = [] }
 cut_lines (byte ∷ bytes) = if byte == 10 then record { whole = [] ∷ (cut_lines bytes).whole; rest = (cut_lines bytes).rest } else onto_front byte (cut_lines bytes)
 
+-- a line of its own, unless there is nothing in it
+abbrev pub unless_empty : List ℕ → List (List ℕ)
+unless_empty [] = []
+unless_empty (byte ∷ bytes) = (byte ∷ bytes) ∷ []
+
 -- the lines, the last of which may lack its newline; an empty rest is no line
 abbrev pub lines_of : List ℕ → List (List ℕ)
-lines_of bytes = (cut_lines bytes).whole ++ nonempty (cut_lines bytes).rest
-  where
-    nonempty : List ℕ → List (List ℕ)
-    nonempty [] = []
-    nonempty line = line ∷ []
+lines_of bytes = (cut_lines bytes).whole ++ unless_empty (cut_lines bytes).rest

@@ -1,5 +1,5 @@
 -- The numbers of the statuses, and the status that a fault leads to.
-use Rattle.std.specs.Prelude.{ℕ}
+use Rattle.std.specs.Prelude.{ℕ, Result, Ok, Err}
 use Rattle.layer_base.specs.declared.sink.SinkFault.{SinkFault}
 use Rattle.layer_base.specs.declared.sink.SinkFault.TheVariants as sink
 use Rattle.session.specs.declared.status.Status.{Status}
@@ -37,3 +37,8 @@ abbrev pub status_of_fault : CommandFault → Status
 status_of_fault fault.Image = status.ImageFault
 status_of_fault fault.Out = status.OutFault
 status_of_fault fault.Memory = status.Memory
+
+-- the status of a run whose last write came to this
+abbrev pub status_after : Status → Result (Unit {0}) CommandFault → Status
+status_after done (Ok _) = done
+status_after done (Err fault) = status_of_fault fault

@@ -1,11 +1,13 @@
 //! A run of memlens: a script of commands over an image, and the text that it writes.
 #![tactic(auto)]
 
+mod command;
 pub mod dump_row;
 mod line;
 mod line_buffer;
 mod read;
 mod script;
 mod status;
+mod words;
 
 pub use status::Status;

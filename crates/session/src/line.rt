@@ -2,7 +2,7 @@
 ghost use Rattle.std.specs.Prelude.{◌≡◌, ◌⊎◌, ◌+◌, ◌^◌, ◌<◌, ◌≤◌, ◌&&◌, map, filter, nat_lt, nat_le, length, codes, IfOk, IsErrOf};
 ghost use Rattle.std.specs.List.{slice_split};
 ghost use Rattle.std.specs.Str.{bytes_eq};
-ghost use Rattle.session.specs.Line.{is_blank, trimmed, words_of, digit_of, digits_of, number_of, read_of, command_of_words, command_of};
+ghost use Rattle.session.specs.Line.{is_blank, trimmed, words_of, digit_of, digits_of, number_of, read_of, command_of_words, command_of, EndsInRange};
 
 use std::alloc::{AllocError, Global};
 
@@ -121,7 +121,8 @@ fn command_of_words(words: &[&[u8]]) -> Result<Command, LineFault>
 
 /// Reads a line. A fault comes as the line says it, but for `Memory`, which may come at any line.
 pub(crate) fn parse_line(alloc: Global, line: &[u8]) -> Result<Command, LineFault>
-    ensures { IsErrOf result LineFault.Memory ⊎ (result ≡ command_of line.now) }
+    ensures meaning { IsErrOf result LineFault.Memory ⊎ (result ≡ command_of line.now) }
+    ensures range { IfOk result EndsInRange }
 {
     if line.len() > MAX_LINE {
         return Err(LineFault::TooLong);

@@ -1,2 +1,118 @@
 //! Running a script: a byte is taken after another, and a line is run before the next is read.
+ghost use Rattle.std.specs.Prelude.{◌≡◌, codes, option_to_list, IsErr, IsErrOf, IsNone, IfOk, IfSome, OnOk, OnErr};
+ghost use Rattle.std.specs.Io.KnownBytes.{Consumes, Keeps, IsAtEnd};
+ghost use Rattle.layer_base.specs.Counts.{HasCause};
+ghost use Rattle.layer_base.specs.Known.{Writes};
+ghost use Rattle.layer_base.specs.SameLayer.{IsSameLayer};
+ghost use Rattle.layer_base.specs.View.{physical};
+ghost use Rattle.session.specs.Ran.{IsEndOfScript, RanOver};
+ghost use Rattle.session.specs.Turn.{turn_text, turn_line, rest_text};
+
+use crate::Status;
+use crate::command::run_line;
+use crate::line_buffer::LineBuffer;
+use crate::status::{CommandFault, status_after};
+use layer_base::{Failed, Layer, Sink, Source, write_whole};
+use std::alloc::Global;
+
+/// The most bytes of a script that are read, but for the one that shows that there are more.
 pub(crate) const MAX_SCRIPT: usize = 16_777_216;
+
+// The next byte, or nothing at the end.
+fn take_byte<S: Source>(script: &mut S) -> Result<Option<u8>, Failed>
+    ensures taken { IfOk result (λ byte. Consumes (S.left script.old) (S.left script.new) (option_to_list byte)) }
+    ensures end { IfOk result (λ byte. IsNone byte → IsAtEnd (S.left script.new)) }
+    ensures err { OnErr result (Keeps (S.left script.old) (S.left script.new)) }
+    ensures cause { HasCause (S.faults script.old) (S.faults script.new) (IsErr result) }
+{
+    let mut byte = [0u8; 1];
+    let count = script.read(&mut byte)?;
+    Ok(if count == 0 { None } else { Some(byte[0]) })
+}
+
+// Takes a byte into the line, or runs the line that it ends.
+fn take_in<Y: Layer, O: Sink>(
+    alloc: Global,
+    image: &mut Y,
+    line: &mut LineBuffer,
+    byte: u8,
+    out: &mut O,
+) -> Result<(), CommandFault>
+    ensures text { IfSome (Y.view image.old) (λ view.
+        Writes (O.written out.old) (O.written out.new) result (turn_text (physical view) line.old byte)) }
+    ensures line { OnOk result (line.new ≡ turn_line line.old byte) }
+    ensures layer { IsSameLayer Y.view Y.kind Y.faults Y.calls image.old image.new }
+    ensures image { HasCause (Y.faults image.old) (Y.faults image.new) (IsErrOf result CommandFault.Image) }
+    ensures out { HasCause (O.faults out.old) (O.faults out.new) (IsErrOf result CommandFault.Out) }
+{
+    if byte == b'\n' {
+        run_line(alloc, image, line.bytes(), out)?;
+        line.clear();
+    } else {
+        line.add(byte);
+    }
+    Ok(())
+}
+
+// Runs the line that lacks its newline, if there is one.
+fn run_rest<Y: Layer, O: Sink>(
+    alloc: Global,
+    image: &mut Y,
+    line: &LineBuffer,
+    out: &mut O,
+) -> Result<(), CommandFault>
+    ensures text { IfSome (Y.view image.old) (λ view.
+        Writes (O.written out.old) (O.written out.new) result (rest_text (physical view) line.now)) }
+    ensures layer { IsSameLayer Y.view Y.kind Y.faults Y.calls image.old image.new }
+    ensures image { HasCause (Y.faults image.old) (Y.faults image.new) (IsErrOf result CommandFault.Image) }
+    ensures out { HasCause (O.faults out.old) (O.faults out.new) (IsErrOf result CommandFault.Out) }
+{
+    match line.bytes() {
+        [] => Ok(()),
+        rest => run_line(alloc, image, rest, out),
+    }
+}
+
+// Says that the script has more bytes than are read.
+fn refuse_rest<O: Sink>(out: &mut O) -> Result<(), CommandFault>
+    ensures text { Writes (O.written out.old) (O.written out.new) result (codes "script too long\n") }
+    ensures out { HasCause (O.faults out.old) (O.faults out.new) (IsErrOf result CommandFault.Out) }
+    ensures image { IsErrOf result CommandFault.Image → ⊥ }
+{
+    write_whole(out, b"script too long\n")?;
+    Ok(())
+}
+
+/// Runs the lines of a script, one after another, and writes what they print.
+pub(crate) fn run_script<Y: Layer, S: Source, O: Sink>(
+    alloc: Global,
+    image: &mut Y,
+    script: &mut S,
+    out: &mut O,
+) -> Status
+    ensures ran { IfSome (Y.view image.old) (λ view. IfSome (S.left script.old) (λ bytes.
+        RanOver (physical view) bytes (S.left script.new) (O.written out.old) (O.written out.new) result)) }
+    ensures end { IsEndOfScript result }
+    ensures layer { IsSameLayer Y.view Y.kind Y.faults Y.calls image.old image.new }
+    ensures image { HasCause (Y.faults image.old) (Y.faults image.new) (result ≡ Status.ImageFault) }
+    ensures script { HasCause (S.faults script.old) (S.faults script.new) (result ≡ Status.ScriptFault) }
+    ensures out { HasCause (O.faults out.old) (O.faults out.new) (result ≡ Status.OutFault) }
+{
+    let mut line = LineBuffer::new();
+    for _ in 0..MAX_SCRIPT {
+        match take_byte(script) {
+            Err(Failed) => return Status::ScriptFault,
+            Ok(None) => return status_after(Status::Ok, run_rest(alloc, image, &line, out)),
+            Ok(Some(byte)) => {
+                if let Err(fault) = take_in(alloc, image, &mut line, byte, out) {
+                    return fault.status();
+                }
+            }
+        }
+    }
+    match take_byte(script) {
+        Err(Failed) => Status::ScriptFault,
+        Ok(None) => status_after(Status::Ok, run_rest(alloc, image, &line, out)),
+        Ok(Some(_)) => status_after(Status::ScriptTooLong, refuse_rest(out)),
+    }
+}

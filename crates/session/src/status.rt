@@ -1,7 +1,7 @@
 //! How a run ends.
 ghost use Rattle.std.specs.Prelude.{◌≡◌};
 ghost use Rattle.session.specs.declared.status.CommandFault.TheVariants.{Image, Memory};
-ghost use Rattle.session.specs.Status.{fault_of_sink, status_of_fault, number_of_status};
+ghost use Rattle.session.specs.Status.{fault_of_sink, status_of_fault, status_after, number_of_status};
 
 use layer_base::{DeviceFailed, SinkFault};
 use std::alloc::AllocError;
@@ -71,6 +71,16 @@ impl CommandFault {
             CommandFault::Out => Status::OutFault,
             CommandFault::Memory => Status::Memory,
         }
+    }
+}
+
+/// The status of a run whose last write came to this.
+pub(crate) fn status_after(done: Status, written: Result<(), CommandFault>) -> Status
+    ensures { result ≡ status_after done written }
+{
+    match written {
+        Ok(()) => done,
+        Err(fault) => fault.status(),
     }
 }
 

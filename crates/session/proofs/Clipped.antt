@@ -1,0 +1,37 @@
+-- A line of which the bytes that are too many are not kept.
+use Rattle.std.proofs.Common.{◌≡◌, ℕ, ◌<◌, ◌≤◌, Bool, true, false, cond, ltb, List, [], ◌∷◌, ◌++◌, length, take, refl, sym, ◌∙◌, ap, ⊎_elim, arith, length-take}
+use Rattle.std.proofs.lemmas.Bool.{cases_lt}
+use Rattle.std.proofs.lemmas.Bool.Decides.{nat_tests}
+use Rattle.std.proofs.lemmas.List.{take_all, take_at, take-append-le, length_push}
+use Rattle.std.specs.Prelude.{Err}
+use Rattle.layer_base.specs.AddressSpace.{AddressSpace}
+use Rattle.session.specs.Line.{command_of, command_of_words, words_of}
+use Rattle.session.specs.Script.{line_text, text_of}
+use Rattle.session.specs.Turn.{rest_text}
+use Rattle.session.specs.declared.line.LineFault.TheVariants.{TooLong}
+use Rattle.session.specs.declared.line_buffer.TheConstants.{LINE_ROOM}
+
+too_long : (line : List ℕ) → 4096 < length line → command_of line ≡ Err TooLong
+too_long line long = chosen (ltb 4096 (length line)) (grind (arith, nat_tests))
+  where
+    chosen : (b : Bool) → b ≡ true → cond b (Err TooLong) (command_of_words (words_of line)) ≡ Err TooLong
+    chosen b is = rw is refl
+
+command_of-clipped : (line : List ℕ) → command_of (take LINE_ROOM line) ≡ command_of line
+command_of-clipped line = ⊎_elim
+  (λ long. too_long (take LINE_ROOM line) (omega (arith, length-take LINE_ROOM line)) ∙ sym (too_long line (omega (arith, long))))
+  (λ short. ap command_of (take_all LINE_ROOM line short)) (cases_lt LINE_ROOM (length line))
+
+pub line_text-clipped : (memory : AddressSpace) (line : List ℕ) → line_text memory (take LINE_ROOM line) ≡ line_text memory line
+line_text-clipped memory line = ap (text_of memory) (command_of-clipped line)
+
+pub rest_text-clipped : (memory : AddressSpace) (line : List ℕ) → rest_text memory (take LINE_ROOM line) ≡ rest_text memory line
+rest_text-clipped memory [] = refl
+rest_text-clipped memory (byte ∷ bytes) = ap (λ (text : List ℕ). text ++ []) (line_text-clipped memory (byte ∷ bytes))
+
+pub clipped-push : (line : List ℕ) (byte : ℕ) → take LINE_ROOM (line ++ byte ∷ []) ≡ take LINE_ROOM (take LINE_ROOM line ++ byte ∷ [])
+clipped-push line byte = ⊎_elim
+  (λ long.
+    take-append-le LINE_ROOM line (byte ∷ []) (omega (arith, long))
+    ∙ sym (take_at (take LINE_ROOM line) (byte ∷ []) LINE_ROOM (omega (arith, long, length-take LINE_ROOM line))))
+  (λ short. ap (λ (l : List ℕ). take LINE_ROOM (l ++ byte ∷ [])) (sym (take_all LINE_ROOM line short))) (cases_lt LINE_ROOM (length line))

@@ -1,0 +1,166 @@
+-- How a script ends, from where it is being run.
+use Rattle.std.proofs.Common.{◌≡◌, ℕ, ◌+◌, ◌<◌, ◌≤◌, Bool, true, false, List, [], ◌∷◌, ◌++◌, length, take, Option, None, Some, Result, Ok, Err, refl, sym, subst, ◌∙◌, ap, arith, append_assoc, length-append}
+use Rattle.std.specs.Prelude.{codes}
+use Rattle.std.proofs.lemmas.List.{append-nil, take_at, take_all, length_push}
+use Rattle.std.proofs.Math.Seq.{take-append-add}
+use Rattle.std.specs.Io.{StartsWith}
+use Rattle.std.specs.Io.KnownBytes.{Appends, Consumes, IsAtEnd, Keeps}
+use Rattle.layer_base.specs.AddressSpace.{AddressSpace}
+use Rattle.layer_base.specs.Known.{AppendsPrefix, Writes}
+use Rattle.layer_base.proofs.Appending.{Appends-none, Appends-append, StartsWith-from, StartsWith-front, StartsWith-same, StartsWith-trans, StartsWith-behind}
+use Rattle.session.specs.Headline.{lines_before_last}
+use Rattle.session.specs.Lines.{cut_lines}
+use Rattle.session.specs.Ran.{Ran, RanOver, script_status}
+use Rattle.session.specs.Script.{is_short, script_text, script_taken, texts_of}
+use Rattle.session.specs.Status.{IsAnswer, status_of_fault, status_after}
+use Rattle.session.specs.Turn.{turn_text, rest_text}
+use Rattle.session.specs.declared.line_buffer.TheConstants.{LINE_ROOM}
+use Rattle.session.specs.declared.status.CommandFault.{CommandFault}
+use Rattle.session.specs.declared.status.CommandFault.TheVariants as fault
+use Rattle.session.specs.declared.status.Status.{Status}
+use Rattle.session.specs.declared.status.Status.TheVariants as status
+use Rattle.session.proofs.Clipped.{rest_text-clipped}
+use Rattle.session.proofs.Texts.{texts-push, lines_before_last-push, texts-before_last}
+use Rattle.session.proofs.Underway.{Underway, Consumes-append, Consumes-keep, Consumes-front, Consumes-all}
+use Rattle.session.proofs.Whole.{is_short-within, is_short-past, text-short, text-long, taken-short, taken-long, status-short, status-long, text-front, taken-front}
+
+fault_is_no_answer : (fault : CommandFault) → IsAnswer (status_of_fault fault) → ⊥
+fault_is_no_answer fault.Image answer = answer
+fault_is_no_answer fault.Out answer = answer
+fault_is_no_answer fault.Memory answer = answer
+
+fault_is_of_no_script : (fault : CommandFault) → status_of_fault fault ≡ status.ScriptFault → ⊥
+fault_is_of_no_script fault.Image is = cc is
+fault_is_of_no_script fault.Out is = cc is
+fault_is_of_no_script fault.Memory is = cc is
+
+-- what a writer appended is in front of its text, and all of it on Ok
+module _ (old new : Option (List ℕ)) (text : List ℕ) where
+  pub record Piece (result : Result (Unit {0}) CommandFault) : Type 0 where
+    pub piece : List ℕ
+    pub written : Appends old new piece
+    pub front : StartsWith text piece
+    pub whole : IsAnswer (status_after status.Ok result) → piece ≡ text
+
+  pub piece_of : (result : Result (Unit {0}) CommandFault) → Writes old new result text → Piece result
+  piece_of (Ok done) writes = record { piece = text; written = writes; front = StartsWith-same text; whole = λ answer. refl }
+  piece_of (Err fault) writes = record { piece = writes.0; written = writes.1; front = writes.2; whole = λ answer. absurd (fault_is_no_answer fault answer) }
+
+module _ (memory : AddressSpace) (script : List ℕ) (left left' out out' : Option (List ℕ)) (line : List ℕ) (count : ℕ) (underway : Underway memory script left out out' line count) where
+  abbrev given : List ℕ
+  given = underway.given
+
+  abbrev so_far : List ℕ
+  so_far = texts_of memory (cut_lines given).whole
+
+  within : (n : ℕ) → count ≤ n → length given ≤ n
+  within n few = omega (arith, underway.count_is)
+
+  -- a call on the script failed
+  pub script-failed : count ≤ 16777216 → Keeps left left' → RanOver memory script left' out out' status.ScriptFault
+  script-failed few kept =
+      let front = Consumes-front script left given underway.taken in (
+        given,
+        so_far,
+        Consumes-keep script left left' given underway.taken kept,
+        underway.written,
+        record {
+          given_prefix = taken-front memory script given front.0 front.1 (within 16777217 (omega arith));
+          text_prefix = text-front memory script given front.0 front.1 (within 16777216 few);
+          lines = texts-before_last memory given;
+          lines_at_fault = λ is. StartsWith-same so_far;
+          status_is = λ answer. absurd answer;
+          text_is = λ answer. absurd answer;
+          given_is = λ answer. absurd answer;
+        },
+      )
+
+  -- a line was cut short, or the byte that it ends with
+  pub turn-failed : (byte : ℕ) (fault : CommandFault) (out'' : Option (List ℕ)) → count < 16777216 → Consumes left left' (byte ∷ []) → AppendsPrefix out' out'' (turn_text memory line byte) → RanOver memory script left' out out'' (status_of_fault fault)
+  turn-failed byte fault out'' few taken prefix =
+      let given' = given ++ byte ∷ [] in
+      let taken' = Consumes-append script left left' given (byte ∷ []) underway.taken taken in
+      let front = Consumes-front script left' given' taken' in
+      let turn : turn_text memory line byte ≡ turn_text memory (take LINE_ROOM (cut_lines given).rest) byte = ap (λ l. turn_text memory l byte) underway.line_is in
+      let piece : StartsWith (turn_text memory (take LINE_ROOM (cut_lines given).rest) byte) prefix.0 = subst (λ text. StartsWith text prefix.0) turn prefix.2 in
+      let before : StartsWith (texts_of memory (cut_lines given').whole) (so_far ++ prefix.0) = subst (λ text. StartsWith text (so_far ++ prefix.0)) (sym (texts-push memory given byte)) (StartsWith-behind so_far _ prefix.0 piece) in (
+        given',
+        so_far ++ prefix.0,
+        taken',
+        Appends-append out out' out'' so_far prefix.0 underway.written prefix.1,
+        record {
+          given_prefix = taken-front memory script given' front.0 front.1 (omega (arith, length_push given byte, within 16777216 (omega arith)));
+          text_prefix = StartsWith-trans _ _ _ (text-front memory script given' front.0 front.1 (omega (arith, length_push given byte, underway.count_is))) before;
+          lines = subst (λ lines. StartsWith (so_far ++ prefix.0) (texts_of memory lines)) (sym (lines_before_last-push given byte)) (StartsWith-front so_far prefix.0);
+          lines_at_fault = λ is. absurd (fault_is_of_no_script fault is);
+          status_is = λ answer. absurd (fault_is_no_answer fault answer);
+          text_is = λ answer. absurd (fault_is_no_answer fault answer);
+          given_is = λ answer. absurd (fault_is_no_answer fault answer);
+        },
+      )
+
+  -- the script is at its end
+  pub script-ended : (out'' : Option (List ℕ)) (result : Result (Unit {0}) CommandFault) → count ≤ 16777216 → Consumes left left' [] → IsAtEnd left' → Writes out' out'' result (rest_text memory line) → RanOver memory script left' out out'' (status_after status.Ok result)
+  script-ended out'' result few taken end writes =
+      let taken' : Consumes (Some script) left' given = subst (Consumes (Some script) left') (append-nil given) (Consumes-append script left left' given [] underway.taken taken) in
+      let all : given ≡ script = Consumes-all script left' given taken' end in
+      let short : is_short script ≡ true = is_short-within script (omega (arith, ap length all, underway.count_is)) in
+      let rest : rest_text memory line ≡ rest_text memory (cut_lines given).rest = ap (rest_text memory) underway.line_is ∙ rest_text-clipped memory (cut_lines given).rest in
+      let text : script_text memory script ≡ so_far ++ rest_text memory line = text-short memory script short ∙ ap (λ l. texts_of memory (cut_lines l).whole ++ rest_text memory (cut_lines l).rest) (sym all) ∙ ap (λ l. so_far ++ l) (sym rest) in
+      let piece = piece_of out' out'' (rest_text memory line) result writes in (
+        given,
+        so_far ++ piece.piece,
+        taken',
+        Appends-append out out' out'' so_far piece.piece underway.written piece.written,
+        record {
+          given_prefix = subst (λ l. StartsWith l given) (all ∙ sym (taken-short memory script short)) (StartsWith-same given);
+          text_prefix = subst (λ l. StartsWith l (so_far ++ piece.piece)) (sym text) (StartsWith-behind so_far _ piece.piece piece.front);
+          lines = StartsWith-trans _ _ _ (StartsWith-front so_far piece.piece) (texts-before_last memory given);
+          lines_at_fault = λ is. StartsWith-front so_far piece.piece;
+          status_is = ended result short;
+          text_is = λ answer. ap (λ l. so_far ++ l) (piece.whole answer) ∙ sym text;
+          given_is = λ answer. all ∙ sym (taken-short memory script short);
+        },
+      )
+    where
+      ended : (result : Result (Unit {0}) CommandFault) → is_short script ≡ true → IsAnswer (status_after status.Ok result) → status_after status.Ok result ≡ script_status script
+      ended (Ok done) short answer = sym (status-short memory script short)
+      ended (Err fault) short answer = absurd (fault_is_no_answer fault answer)
+
+  -- the script goes on behind the last byte that is read
+  pub script-too_long : (byte : ℕ) (out'' : Option (List ℕ)) (result : Result (Unit {0}) CommandFault) → count ≡ 16777216 → Consumes left left' (byte ∷ []) → Writes out' out'' result (codes "script too long\n") → RanOver memory script left' out out'' (status_after status.ScriptTooLong result)
+  script-too_long byte out'' result most taken writes =
+      let given' = given ++ byte ∷ [] in
+      let taken' = Consumes-append script left left' given (byte ∷ []) underway.taken taken in
+      let front = Consumes-front script left' given' taken' in
+      let size : length given ≡ 16777216 = omega (arith, underway.count_is) in
+      let size' : length given' ≡ 16777217 = omega (arith, length_push given byte) in
+      let long : is_short script ≡ false = is_short-past script (omega (arith, ap length front.1, length-append given' front.0)) in
+      let read : take 16777216 script ≡ given = ap (take 16777216) (front.1 ∙ append_assoc given (byte ∷ []) front.0) ∙ take_at given (byte ∷ [] ++ front.0) 16777216 size in
+      let all : given' ≡ script_taken script = sym (taken-long memory script long ∙ ap (take 16777217) front.1 ∙ take_at given' front.0 16777217 size') in
+      let text : script_text memory script ≡ so_far ++ codes "script too long\n" = text-long memory script long ∙ ap (λ l. texts_of memory (cut_lines l).whole ++ codes "script too long\n") read in
+      let piece = piece_of out' out'' (codes "script too long\n") result writes in (
+        given',
+        so_far ++ piece.piece,
+        taken',
+        Appends-append out out' out'' so_far piece.piece underway.written piece.written,
+        record {
+          given_prefix = subst (λ l. StartsWith l given') all (StartsWith-same given');
+          text_prefix = subst (λ l. StartsWith l (so_far ++ piece.piece)) (sym text) (StartsWith-behind so_far _ piece.piece piece.front);
+          lines = subst (λ lines. StartsWith (so_far ++ piece.piece) (texts_of memory lines)) (sym (lines_before_last-push given byte)) (StartsWith-front so_far piece.piece);
+          lines_at_fault = λ is. absurd (of_no_script result is);
+          status_is = ended result long;
+          text_is = λ answer. ap (λ l. so_far ++ l) (piece.whole (same_answer result answer)) ∙ sym text;
+          given_is = λ answer. all;
+        },
+      )
+    where
+      of_no_script : (result : Result (Unit {0}) CommandFault) → status_after status.ScriptTooLong result ≡ status.ScriptFault → ⊥
+      of_no_script (Ok done) is = cc is
+      of_no_script (Err fault) is = fault_is_of_no_script fault is
+      same_answer : (result : Result (Unit {0}) CommandFault) → IsAnswer (status_after status.ScriptTooLong result) → IsAnswer (status_after status.Ok result)
+      same_answer (Ok done) answer = tt
+      same_answer (Err fault) answer = answer
+      ended : (result : Result (Unit {0}) CommandFault) → is_short script ≡ false → IsAnswer (status_after status.ScriptTooLong result) → status_after status.ScriptTooLong result ≡ script_status script
+      ended (Ok done) long answer = sym (status-long memory script long)
+      ended (Err fault) long answer = absurd (fault_is_no_answer fault answer)
