@@ -19,8 +19,8 @@ too_long line long = chosen (ltb 4096 (length line)) (grind (arith, nat_tests))
 
 command_of-clipped : (line : List ℕ) → command_of (take LINE_ROOM line) ≡ command_of line
 command_of-clipped line = ⊎_elim
-  (λ long. too_long (take LINE_ROOM line) (omega (arith, length-take LINE_ROOM line)) ∙ sym (too_long line (omega (arith, long))))
-  (λ short. ap command_of (take_all LINE_ROOM line short)) (cases_lt LINE_ROOM (length line))
+    (λ long. too_long (take LINE_ROOM line) (omega (arith, length-take LINE_ROOM line)) ∙ sym (too_long line (omega (arith, long))))
+    (λ short. ap command_of (take_all LINE_ROOM line short)) (cases_lt LINE_ROOM (length line))
 
 pub line_text-clipped : (memory : AddressSpace) (line : List ℕ) → line_text memory (take LINE_ROOM line) ≡ line_text memory line
 line_text-clipped memory line = ap (text_of memory) (command_of-clipped line)
@@ -31,7 +31,7 @@ rest_text-clipped memory (byte ∷ bytes) = ap (λ (text : List ℕ). text ++ []
 
 pub clipped-push : (line : List ℕ) (byte : ℕ) → take LINE_ROOM (line ++ byte ∷ []) ≡ take LINE_ROOM (take LINE_ROOM line ++ byte ∷ [])
 clipped-push line byte = ⊎_elim
-  (λ long.
+    (λ long.
     take-append-le LINE_ROOM line (byte ∷ []) (omega (arith, long))
     ∙ sym (take_at (take LINE_ROOM line) (byte ∷ []) LINE_ROOM (omega (arith, long, length-take LINE_ROOM line))))
-  (λ short. ap (λ (l : List ℕ). take LINE_ROOM (l ++ byte ∷ [])) (sym (take_all LINE_ROOM line short))) (cases_lt LINE_ROOM (length line))
+    (λ short. ap (λ (l : List ℕ). take LINE_ROOM (l ++ byte ∷ [])) (sym (take_all LINE_ROOM line short))) (cases_lt LINE_ROOM (length line))

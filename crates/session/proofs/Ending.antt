@@ -10,7 +10,8 @@ use Rattle.layer_base.specs.Known.{AppendsPrefix, Writes}
 use Rattle.layer_base.proofs.Appending.{Appends-none, Appends-append, StartsWith-from, StartsWith-front, StartsWith-same, StartsWith-trans, StartsWith-behind}
 use Rattle.session.specs.Headline.{lines_before_last}
 use Rattle.session.specs.Lines.{cut_lines}
-use Rattle.session.specs.Ran.{Ran, RanOver, script_status}
+use Rattle.session.specs.Ran.{Ran, RanOver}
+use Rattle.session.specs.Run.{script_run}
 use Rattle.session.specs.Script.{is_short, script_text, script_taken, texts_of}
 use Rattle.session.specs.Status.{IsAnswer, status_of_fault, status_after}
 use Rattle.session.specs.Turn.{turn_text, rest_text}
@@ -24,12 +25,12 @@ use Rattle.session.proofs.Texts.{texts-push, lines_before_last-push, texts-befor
 use Rattle.session.proofs.Underway.{Underway, Consumes-append, Consumes-keep, Consumes-front, Consumes-all}
 use Rattle.session.proofs.Whole.{is_short-within, is_short-past, text-short, text-long, taken-short, taken-long, status-short, status-long, text-front, taken-front}
 
-fault_is_no_answer : (fault : CommandFault) → IsAnswer (status_of_fault fault) → ⊥
+pub fault_is_no_answer : (fault : CommandFault) → IsAnswer (status_of_fault fault) → ⊥
 fault_is_no_answer fault.Image answer = answer
 fault_is_no_answer fault.Out answer = answer
 fault_is_no_answer fault.Memory answer = answer
 
-fault_is_of_no_script : (fault : CommandFault) → status_of_fault fault ≡ status.ScriptFault → ⊥
+pub fault_is_of_no_script : (fault : CommandFault) → status_of_fault fault ≡ status.ScriptFault → ⊥
 fault_is_of_no_script fault.Image is = cc is
 fault_is_of_no_script fault.Out is = cc is
 fault_is_of_no_script fault.Memory is = cc is
@@ -57,7 +58,7 @@ module _ (memory : AddressSpace) (script : List ℕ) (left left' out out' : Opti
   within n few = omega (arith, underway.count_is)
 
   -- a call on the script failed
-  pub script-failed : count ≤ 16777216 → Keeps left left' → RanOver memory script left' out out' status.ScriptFault
+  pub script-failed : count ≤ 16777216 → Keeps left left' → RanOver memory (script_run memory script) script left' out out' status.ScriptFault
   script-failed few kept =
       let front = Consumes-front script left given underway.taken in (
         given,
@@ -76,7 +77,7 @@ module _ (memory : AddressSpace) (script : List ℕ) (left left' out out' : Opti
       )
 
   -- a line was cut short, or the byte that it ends with
-  pub turn-failed : (byte : ℕ) (fault : CommandFault) (out'' : Option (List ℕ)) → count < 16777216 → Consumes left left' (byte ∷ []) → AppendsPrefix out' out'' (turn_text memory line byte) → RanOver memory script left' out out'' (status_of_fault fault)
+  pub turn-failed : (byte : ℕ) (fault : CommandFault) (out'' : Option (List ℕ)) → count < 16777216 → Consumes left left' (byte ∷ []) → AppendsPrefix out' out'' (turn_text memory line byte) → RanOver memory (script_run memory script) script left' out out'' (status_of_fault fault)
   turn-failed byte fault out'' few taken prefix =
       let given' = given ++ byte ∷ [] in
       let taken' = Consumes-append script left left' given (byte ∷ []) underway.taken taken in
@@ -100,7 +101,7 @@ module _ (memory : AddressSpace) (script : List ℕ) (left left' out out' : Opti
       )
 
   -- the script is at its end
-  pub script-ended : (out'' : Option (List ℕ)) (result : Result (Unit {0}) CommandFault) → count ≤ 16777216 → Consumes left left' [] → IsAtEnd left' → Writes out' out'' result (rest_text memory line) → RanOver memory script left' out out'' (status_after status.Ok result)
+  pub script-ended : (out'' : Option (List ℕ)) (result : Result (Unit {0}) CommandFault) → count ≤ 16777216 → Consumes left left' [] → IsAtEnd left' → Writes out' out'' result (rest_text memory line) → RanOver memory (script_run memory script) script left' out out'' (status_after status.Ok result)
   script-ended out'' result few taken end writes =
       let taken' : Consumes (Some script) left' given = subst (Consumes (Some script) left') (append-nil given) (Consumes-append script left left' given [] underway.taken taken) in
       let all : given ≡ script = Consumes-all script left' given taken' end in
@@ -123,12 +124,12 @@ module _ (memory : AddressSpace) (script : List ℕ) (left left' out out' : Opti
         },
       )
     where
-      ended : (result : Result (Unit {0}) CommandFault) → is_short script ≡ true → IsAnswer (status_after status.Ok result) → status_after status.Ok result ≡ script_status script
+      ended : (result : Result (Unit {0}) CommandFault) → is_short script ≡ true → IsAnswer (status_after status.Ok result) → status_after status.Ok result ≡ (script_run memory script).status
       ended (Ok done) short answer = sym (status-short memory script short)
       ended (Err fault) short answer = absurd (fault_is_no_answer fault answer)
 
   -- the script goes on behind the last byte that is read
-  pub script-too_long : (byte : ℕ) (out'' : Option (List ℕ)) (result : Result (Unit {0}) CommandFault) → count ≡ 16777216 → Consumes left left' (byte ∷ []) → Writes out' out'' result (codes "script too long\n") → RanOver memory script left' out out'' (status_after status.ScriptTooLong result)
+  pub script-too_long : (byte : ℕ) (out'' : Option (List ℕ)) (result : Result (Unit {0}) CommandFault) → count ≡ 16777216 → Consumes left left' (byte ∷ []) → Writes out' out'' result (codes "script too long\n") → RanOver memory (script_run memory script) script left' out out'' (status_after status.ScriptTooLong result)
   script-too_long byte out'' result most taken writes =
       let given' = given ++ byte ∷ [] in
       let taken' = Consumes-append script left left' given (byte ∷ []) underway.taken taken in
@@ -158,9 +159,11 @@ module _ (memory : AddressSpace) (script : List ℕ) (left left' out out' : Opti
       of_no_script : (result : Result (Unit {0}) CommandFault) → status_after status.ScriptTooLong result ≡ status.ScriptFault → ⊥
       of_no_script (Ok done) is = cc is
       of_no_script (Err fault) is = fault_is_of_no_script fault is
+
       same_answer : (result : Result (Unit {0}) CommandFault) → IsAnswer (status_after status.ScriptTooLong result) → IsAnswer (status_after status.Ok result)
       same_answer (Ok done) answer = tt
       same_answer (Err fault) answer = answer
-      ended : (result : Result (Unit {0}) CommandFault) → is_short script ≡ false → IsAnswer (status_after status.ScriptTooLong result) → status_after status.ScriptTooLong result ≡ script_status script
+
+      ended : (result : Result (Unit {0}) CommandFault) → is_short script ≡ false → IsAnswer (status_after status.ScriptTooLong result) → status_after status.ScriptTooLong result ≡ (script_run memory script).status
       ended (Ok done) long answer = sym (status-long memory script long)
       ended (Err fault) long answer = absurd (fault_is_no_answer fault answer)

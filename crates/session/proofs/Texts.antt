@@ -22,6 +22,7 @@ texts-push memory given byte = ap (λ lines. texts_of memory lines.whole) (cut-p
   where
     lines : Lines
     lines = cut_lines given
+
     at_byte : (newline : Bool) → texts_of memory (pushed newline byte lines).whole ≡ texts_of memory lines.whole ++ cond newline (line_text memory (take LINE_ROOM lines.rest)) []
     at_byte true =
         texts_of-append memory lines.whole (lines.rest ∷ [])
@@ -34,6 +35,7 @@ rest-push given byte = ap (λ lines. take LINE_ROOM lines.rest) (cut-push given 
   where
     lines : Lines
     lines = cut_lines given
+
     at_byte : (newline : Bool) → take LINE_ROOM (pushed newline byte lines).rest ≡ cond newline [] (take LINE_ROOM (take LINE_ROOM lines.rest ++ byte ∷ []))
     at_byte true = refl
     at_byte false = clipped-push lines.rest byte
@@ -51,8 +53,10 @@ lines_before_last-push given byte = ap cut_before_last (cut-push given byte) ∙
   where
     lines : Lines
     lines = cut_lines given
+
     cut_before_last : Lines → List (List ℕ)
     cut_before_last cut = take (length (cut.whole ++ unless_empty cut.rest) - 1) (cut.whole ++ unless_empty cut.rest)
+
     at_byte : (newline : Bool) → cut_before_last (pushed newline byte lines) ≡ lines.whole
     at_byte true = ap (λ (l : List (List ℕ)). take (length l - 1) l) (append-nil (lines.whole ++ lines.rest ∷ [])) ∙ but_last lines.whole lines.rest
     at_byte false = ap (λ (l : List (List ℕ)). take (length (lines.whole ++ l) - 1) (lines.whole ++ l)) (unless_empty-push lines.rest byte) ∙ but_last lines.whole (lines.rest ++ byte ∷ [])
@@ -69,7 +73,7 @@ texts-before_last memory given = among (cut_lines given).whole (cut_lines given)
     among whole [] =
         let n = length (whole ++ []) - 1 in
         StartsWith-from _ _ (texts_of memory (drop n (whole ++ []))) (
-          ap (texts_of memory) (sym (append-nil whole) ∙ sym (take-append-drop n (whole ++ []))) ∙ texts_of-append memory (take n (whole ++ [])) (drop n (whole ++ []))
+        ap (texts_of memory) (sym (append-nil whole) ∙ sym (take-append-drop n (whole ++ []))) ∙ texts_of-append memory (take n (whole ++ [])) (drop n (whole ++ []))
         )
     among whole (byte ∷ bytes) = StartsWith-from _ _ [] (ap (texts_of memory) (sym (but_last whole (byte ∷ bytes))) ∙ sym (append-nil _))
 
@@ -84,5 +88,5 @@ texts-more memory given more = let after = behind given more in StartsWith-from 
         let turn = turn_text memory (take LINE_ROOM (cut_lines given).rest) byte in (
           turn ++ next.0,
           ap (λ (l : List ℕ). texts_of memory (cut_lines l).whole) (sym (append_assoc given (byte ∷ []) more)) ∙ next.1
-          ∙ ap (λ (l : List ℕ). l ++ next.0) (texts-push memory given byte) ∙ append_assoc (texts_of memory (cut_lines given).whole) turn next.0,
+              ∙ ap (λ (l : List ℕ). l ++ next.0) (texts-push memory given byte) ∙ append_assoc (texts_of memory (cut_lines given).whole) turn next.0,
         )

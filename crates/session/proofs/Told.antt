@@ -9,3 +9,8 @@ IfSome-always (Some x) always = always x
 pub IfSome-both : {X : Type 0} (told : Option X) {P Q R : X → Type 0} → IfSome told P → IfSome told Q → ((x : X) → P x → Q x → R x) → IfSome told R
 IfSome-both None first second then = tt
 IfSome-both (Some x) first second then = then x first second
+
+-- a fact over what is told, and over its being told
+pub IfSome-told : {X : Type 0} (told : Option X) (Q : Option X → X → Type 0) → IfSome told (λ x. Q (Some x) x) → IfSome told (Q told)
+IfSome-told None Q known = tt
+IfSome-told (Some x) Q known = known

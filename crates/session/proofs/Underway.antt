@@ -9,8 +9,7 @@ use Rattle.layer_base.specs.AddressSpace.{AddressSpace}
 use Rattle.layer_base.specs.Known.{AppendsPrefix, Writes}
 use Rattle.layer_base.proofs.Appending.{Appends-none, Appends-append, StartsWith-from, StartsWith-front, StartsWith-same, StartsWith-trans, StartsWith-behind, StartsWith-split}
 use Rattle.session.specs.Lines.{cut_lines, lines_of}
-use Rattle.session.specs.Ran.{Ran, RanOver, script_status}
-use Rattle.session.specs.Script.{is_short, script_text, script_taken, texts_of}
+use Rattle.session.specs.Script.{texts_of}
 use Rattle.session.specs.Turn.{turn_text, turn_line, rest_text}
 use Rattle.session.specs.declared.line_buffer.TheConstants.{LINE_ROOM}
 use Rattle.session.specs.declared.script.TheConstants.{MAX_SCRIPT}
@@ -57,7 +56,7 @@ module _ (memory : AddressSpace) (script : List ℕ) where
         count_is = omega (arith, length_push given byte, before.count_is);
         taken = Consumes-append script left left' given (byte ∷ []) before.taken taken;
         written = subst (Appends out out'') (ap (λ l. texts_of memory (cut_lines given).whole ++ turn_text memory l byte) before.line_is ∙ sym (texts-push memory given byte)) (
-          Appends-append out out' out'' (texts_of memory (cut_lines given).whole) (turn_text memory line byte) before.written written
-        );
+            Appends-append out out' out'' (texts_of memory (cut_lines given).whole) (turn_text memory line byte) before.written written
+            );
         line_is = next ∙ ap (λ l. turn_line l byte) before.line_is ∙ sym (rest-push given byte);
       }

@@ -9,7 +9,7 @@ use Rattle.std.proofs.Math.Seq.{take-append-add}
 use Rattle.layer_base.specs.AddressSpace.{AddressSpace}
 use Rattle.layer_base.proofs.Appending.{StartsWith-from, StartsWith-front, StartsWith-same, StartsWith-trans}
 use Rattle.session.specs.Lines.{cut_lines, lines_of}
-use Rattle.session.specs.Ran.{script_status}
+use Rattle.session.specs.Run.{script_run}
 use Rattle.session.specs.Script.{is_short, script_text, script_taken, texts_of}
 use Rattle.session.specs.Turn.{rest_text}
 use Rattle.session.specs.declared.script.TheConstants.{MAX_SCRIPT}
@@ -42,10 +42,10 @@ module _ (memory : AddressSpace) (script : List ℕ) where
   unfolding script_taken
   taken-long long = rw long refl
 
-  pub status-short : is_short script ≡ true → script_status script ≡ status.Ok
+  pub status-short : is_short script ≡ true → (script_run memory script).status ≡ status.Ok
   status-short short = rw short refl
 
-  pub status-long : is_short script ≡ false → script_status script ≡ status.ScriptTooLong
+  pub status-long : is_short script ≡ false → (script_run memory script).status ≡ status.ScriptTooLong
   status-long long = rw long refl
 
 -- a front of a script that is read
@@ -58,6 +58,7 @@ module _ (memory : AddressSpace) (script given more : List ℕ) (split : script 
       front others whole is text rest text_is =
           StartsWith-trans text (texts_of memory (cut_lines (given ++ others)).whole) _
           (StartsWith-from text _ rest (text_is ∙ ap (λ (l : List ℕ). texts_of memory (cut_lines l).whole ++ rest) is)) (texts-more memory given others)
+
       by_length : (b : Bool) → is_short script ≡ b → StartsWith (script_text memory script) (texts_of memory (cut_lines given).whole)
       by_length true short = front more script split (script_text memory script) (rest_text memory (cut_lines script).rest) (text-short memory script short)
       by_length false long =

@@ -3,6 +3,7 @@
 
 mod command;
 pub mod dump_row;
+mod ended;
 mod line;
 mod line_buffer;
 mod read;
@@ -10,4 +11,5 @@ mod script;
 mod status;
 mod words;
 
+pub use ended::{Ended, run};
 pub use status::Status;

@@ -5,7 +5,8 @@ ghost use Rattle.layer_base.specs.Counts.{HasCause};
 ghost use Rattle.layer_base.specs.Known.{Writes};
 ghost use Rattle.layer_base.specs.SameLayer.{IsSameLayer};
 ghost use Rattle.layer_base.specs.View.{physical};
-ghost use Rattle.session.specs.Ran.{IsEndOfScript, RanOver};
+ghost use Rattle.session.specs.Ran.{IsScriptEnd, RanOver};
+ghost use Rattle.session.specs.Run.{script_run};
 ghost use Rattle.session.specs.Turn.{turn_text, turn_line, rest_text};
 
 use crate::Status;
@@ -91,8 +92,8 @@ pub(crate) fn run_script<Y: Layer, S: Source, O: Sink>(
     out: &mut O,
 ) -> Status
     ensures ran { IfSome (Y.view image.old) (λ view. IfSome (S.left script.old) (λ bytes.
-        RanOver (physical view) bytes (S.left script.new) (O.written out.old) (O.written out.new) result)) }
-    ensures end { IsEndOfScript result }
+        RanOver (physical view) (script_run (physical view) bytes) bytes (S.left script.new) (O.written out.old) (O.written out.new) result)) }
+    ensures end { IsScriptEnd result }
     ensures layer { IsSameLayer Y.view Y.kind Y.faults Y.calls image.old image.new }
     ensures image { HasCause (Y.faults image.old) (Y.faults image.new) (result ≡ Status.ImageFault) }
     ensures script { HasCause (S.faults script.old) (S.faults script.new) (result ≡ Status.ScriptFault) }

@@ -1,0 +1,133 @@
+//! The top call: a run of a script over an image.
+ghost use Rattle.std.specs.Prelude.{◌≡◌, ℕ, ◌≤◌, ◌⊎◌, List, [], map, string_bytes, IfSome, IsErrOf};
+ghost use Rattle.std.specs.Io.KnownBytes.{Appends, Consumes};
+ghost use Rattle.layer_base.specs.Counts.{HasCause};
+ghost use Rattle.layer_base.specs.Known.{AppendsPrefix, Writes};
+ghost use Rattle.layer_base.specs.SameLayer.{IsSameLayer};
+ghost use Rattle.layer_base.specs.View.{physical};
+ghost use Rattle.session.specs.Causes.{NothingFailed};
+ghost use Rattle.session.specs.Headline.{WhereTold, GavePrefix, HasWholeLines};
+ghost use Rattle.session.specs.Ran.{IsScriptEnd, RanOver};
+ghost use Rattle.session.specs.Run.{refused, run_of};
+ghost use Rattle.session.specs.Status.{IsAnswer};
+
+use crate::Status;
+use crate::script::run_script;
+use crate::status::{CommandFault, status_after};
+use crate::words::are_accepted;
+use layer_base::{Kind, Layer, Sink, Source, Steps, write_whole};
+use std::alloc::Global;
+use std::sync::ledger::Ledger;
+
+/// How a run ended, and the layer that it was given.
+#[derive(Drop)]
+pub struct Ended {
+    pub status: Status,
+    pub layer: Box<dyn Layer>,
+}
+
+fn refuse_words<O: Sink>(out: &mut O) -> Result<(), CommandFault>
+    ensures text { Writes (O.written out.old) (O.written out.new) result refused.text }
+    ensures out { HasCause (O.faults out.old) (O.faults out.new) (IsErrOf result CommandFault.Out) }
+    ensures image { IsErrOf result CommandFault.Image → ⊥ }
+{
+    write_whole(
+        out,
+        b"usage: memlens IMAGE SYMBOLS [DUMP] [--cache N] [--chunk N]\n",
+    )?;
+    Ok(())
+}
+
+// A run over a layer that needn't be boxed.
+fn run_over<Y: Layer, S: Source, O: Sink>(
+    alloc: Global,
+    words: &[String],
+    image: Y,
+    script: &mut S,
+    out: &mut O,
+) -> (Status, Y)
+    ensures ran { IfSome (Y.view image) (λ view. IfSome (S.left script.old) (λ bytes. (symbols : List ℕ) →
+        RanOver (physical view) (run_of (map string_bytes words.now) (physical view) symbols bytes) bytes (S.left script.new) (O.written out.old) (O.written out.new) result.0)) }
+    ensures end { IsScriptEnd result.0 }
+    ensures layer { IsSameLayer Y.view Y.kind Y.faults Y.calls image result.1 }
+    ensures image { HasCause (Y.faults image) (Y.faults result.1) (result.0 ≡ Status.ImageFault) }
+    ensures script { HasCause (S.faults script.old) (S.faults script.new) (result.0 ≡ Status.ScriptFault) }
+    ensures out { HasCause (O.faults out.old) (O.faults out.new) (result.0 ≡ Status.OutFault) }
+{
+    let mut image = image;
+    if !are_accepted(words) {
+        return (status_after(Status::Usage, refuse_words(out)), image);
+    }
+    let status = run_script(alloc, &mut image, script, out);
+    (status, image)
+}
+
+/// Runs a script over an image, and writes what its lines print.
+///
+/// The words are those of the command line. No format is tried on the image yet, the symbol file is not read, and
+/// nothing is dumped. The script is taken one byte at a time, and a line is run before the next is read. A refusal
+/// of the words, or of a script that is too long, is a line of the text.
+///
+/// The clauses on content hold where the image, the symbol file and the script tell what they hold, and those on a
+/// sink where it tells what was written. When `Memory` comes is left open.
+pub fn run<J: Source, S: Source, O: Sink, D: Sink, L: Ledger>(
+    alloc: Global,
+    words: &[String],
+    image: Box<dyn Layer>,
+    formats: &[Kind],
+    symbols: &mut J,
+    script: &mut S,
+    out: &mut O,
+    dump: &mut D,
+    steps: &mut Steps<L>,
+) -> Ended
+    requires file { kind image ≡ Kind.File }
+    requires raw { formats.now ≡ [] }
+
+    // However it ends, what was written, dumped and taken is a front of what the run comes to.
+    ensures text { WhereTold (view image) (J.left symbols.old) (S.left script.old) (λ memory j s.
+        AppendsPrefix (O.written out.old) (O.written out.new) (run_of (map string_bytes words.now) memory j s).text) }
+    ensures dumped { WhereTold (view image) (J.left symbols.old) (S.left script.old) (λ memory j s.
+        AppendsPrefix (D.written dump.old) (D.written dump.new) (run_of (map string_bytes words.now) memory j s).dumped) }
+    ensures symbols_given { WhereTold (view image) (J.left symbols.old) (S.left script.old) (λ memory j s.
+        GavePrefix (J.left symbols.old) (J.left symbols.new) (run_of (map string_bytes words.now) memory j s).symbols_taken) }
+    ensures script_given { WhereTold (view image) (J.left symbols.old) (S.left script.old) (λ memory j s.
+        GavePrefix (S.left script.old) (S.left script.new) (run_of (map string_bytes words.now) memory j s).script_taken) }
+
+    // Every line that was read, but for the last, has its whole text in what was written.
+    ensures whole_lines { WhereTold (view image) (J.left symbols.old) (S.left script.old) (λ memory j s.
+        HasWholeLines memory (S.left script.old) (S.left script.new) (O.written out.old) (O.written out.new) result.status) }
+
+    // A status that is no fault and no want of memory is the one that the run comes to, and all was written and taken.
+    ensures exact_status { WhereTold (view image) (J.left symbols.old) (S.left script.old) (λ memory j s.
+        IsAnswer result.status → result.status ≡ (run_of (map string_bytes words.now) memory j s).status) }
+    ensures exact_text { WhereTold (view image) (J.left symbols.old) (S.left script.old) (λ memory j s.
+        IsAnswer result.status → Appends (O.written out.old) (O.written out.new) (run_of (map string_bytes words.now) memory j s).text) }
+    ensures exact_dumped { WhereTold (view image) (J.left symbols.old) (S.left script.old) (λ memory j s.
+        IsAnswer result.status → Appends (D.written dump.old) (D.written dump.new) (run_of (map string_bytes words.now) memory j s).dumped) }
+    ensures exact_symbols { WhereTold (view image) (J.left symbols.old) (S.left script.old) (λ memory j s.
+        IsAnswer result.status → Consumes (J.left symbols.old) (J.left symbols.new) (run_of (map string_bytes words.now) memory j s).symbols_taken) }
+    ensures exact_script { WhereTold (view image) (J.left symbols.old) (S.left script.old) (λ memory j s.
+        IsAnswer result.status → Consumes (S.left script.old) (S.left script.new) (run_of (map string_bytes words.now) memory j s).script_taken) }
+
+    // A fault is answered only where a call on that object failed.
+    ensures image_fault { HasCause (⟦<Box<dyn Layer> as Layer>⟧.faults image) (⟦<Box<dyn Layer> as Layer>⟧.faults result.layer) (result.status ≡ Status.ImageFault) }
+    ensures symbols_fault { HasCause (J.faults symbols.old) (J.faults symbols.new) (result.status ≡ Status.SymbolsFault) }
+    ensures script_fault { HasCause (S.faults script.old) (S.faults script.new) (result.status ≡ Status.ScriptFault) }
+    ensures out_fault { HasCause (O.faults out.old) (O.faults out.new) (result.status ≡ Status.OutFault) }
+    ensures dump_fault { HasCause (D.faults dump.old) (D.faults dump.new) (result.status ≡ Status.DumpFault) }
+
+    // The layer is the image, and shows what it showed.
+    ensures layer_view { view result.layer ≡ view image }
+    ensures layer_kind { kind result.layer ≡ kind image }
+    ensures layer_calls { calls image ≤ calls result.layer }
+
+    // Where nothing failed, the run comes to its end, unless memory is wanting.
+    ensures complete { WhereTold (view image) (J.left symbols.old) (S.left script.old) (λ memory j s.
+        NothingFailed (⟦<Box<dyn Layer> as Layer>⟧.faults image) (⟦<Box<dyn Layer> as Layer>⟧.faults result.layer) (J.faults symbols.old) (J.faults symbols.new) (S.faults script.old) (S.faults script.new)
+        (O.faults out.old) (O.faults out.new) (D.faults dump.old) (D.faults dump.new)
+        → (result.status ≡ (run_of (map string_bytes words.now) memory j s).status) ⊎ (result.status ≡ Status.Memory)) }
+{
+    let (status, layer) = run_over(alloc, words, image, script, out);
+    Ended { status, layer }
+}
