@@ -42,6 +42,7 @@ words-refused memory script out out' result writes =
     same_answer : (result : Result (Unit {0}) CommandFault) → IsAnswer (status_after status.Usage result) → IsAnswer (status_after status.Ok result)
     same_answer (Ok done) answer = tt
     same_answer (Err fault) answer = answer
+
     ended : (result : Result (Unit {0}) CommandFault) → IsAnswer (status_after status.Usage result) → status_after status.Usage result ≡ status.Usage
     ended (Ok done) answer = refl
     ended (Err fault) answer = absurd (fault_is_no_answer fault answer)
