@@ -8,8 +8,8 @@ use std::os::unix::fs::FileExt;
 use std::rt::Files;
 use std::{fs, io};
 
-/// The last place that a call of the system can name.
-const LAST_PLACE: u64 = (1 << 63) - 1;
+/// How many bytes a file has at the most, so that no call of the system names a place from here on.
+const MOST_BYTES: u64 = (1 << 63) - 1;
 
 /// A file that is read at places. It is opened at the first read, and opened anew after a failure to open it.
 #[derive(Drop)]
@@ -62,10 +62,11 @@ where
     ghost faults = { λ device. device.faults };
 
     fn read_at(&mut self, at: u64, buf: &mut [u8]) -> Result<usize, Failed> {
-        if at > LAST_PLACE {
+        if at >= MOST_BYTES {
             return Ok(0);
         }
-        let answer = self.try_read(at, buf);
+        let room = (buf.len() as u64).min(MOST_BYTES - at) as usize;
+        let answer = self.try_read(at, &mut buf[..room]);
         count_fault(&mut self.faults, answer)
     }
 }

@@ -11,22 +11,76 @@ mod output;
 mod sink;
 mod source;
 
-use layer_base::Steps;
+use device::RealDevice;
+use file_layer::FileLayer;
+use input::RealInput;
+use layer_base::{Layer, PathWord, Steps};
+use output::RealOutput;
+use session::{Status, run};
+use sink::RealSink;
+use source::RealSource;
+use std::alloc::{AllocError, Global};
+use std::env;
+use std::io::ErrorKind;
 use std::marker::Brand;
 use std::process::ExitCode;
+use std::rt::Runtime;
 use std::sync::ledger::{Blank, Ledger};
 
-/// Runs with a counter of steps of its own.
-fn run_steps<L: Ledger>(blank: Blank) -> u8
+/// The words of the command line, but for the program's own name. Where one is not text there are none, which is a
+/// refused command line too.
+fn read_words<R: Runtime<A = Global>>(rt: &R) -> Result<Vec<String>, AllocError> {
+    let mut words = Vec::new(rt.alloc());
+    let args = match env::args(rt) {
+        Ok(args) => args,
+        Err(error) if error.kind() == ErrorKind::OutOfMemory => return Err(AllocError),
+        Err(_) => return Ok(words),
+    };
+    for arg in args.skip(1) {
+        words.push(arg)?;
+    }
+    Ok(words)
+}
+
+/// The paths of the image and of the symbol file. Words that the run refuses name none.
+fn paths(words: &[String]) -> (&str, &str) {
+    match words {
+        [image, symbols] => (image, symbols),
+        _ => ("", ""),
+    }
+}
+
+/// Lends the files and streams of the system to a run. They are opened at their first use.
+fn run_files<L: Ledger>(rt: &HostRuntime, blank: Blank) -> Result<Status, AllocError>
     requires name { blank.name ≡ L.name }
     requires parts { blank.parts ≡ L.parts }
     requires some { 0 < L.parts }
 {
+    let alloc = rt.alloc();
+    let words = read_words(rt)?;
+    let (image, symbols) = paths(&words);
+    let device = RealDevice::new(rt.clone()?, PathWord::of(alloc, image)?);
+    let image: Box<dyn Layer> = Box::new(alloc, FileLayer::new(alloc, device))?;
+    let mut symbols = RealSource::new(rt.clone()?, PathWord::of(alloc, symbols)?);
+    let mut script = RealInput::new(rt.clone()?);
+    let mut out = RealOutput::new(rt.clone()?);
+    let mut dump = RealSink::new(rt.clone()?, PathWord::of(alloc, "")?);
     let mut steps = Steps::<L>::new(blank);
-    steps.tick();
-    0
+    let ended = run(
+        alloc,
+        &words,
+        image,
+        &[],
+        &mut symbols,
+        &mut script,
+        &mut out,
+        &mut dump,
+        &mut steps,
+    );
+    Ok(ended.status)
 }
 
-fn main(_rt: HostRuntime) -> ExitCode {
-    ExitCode::from(run_steps::<Brand>(Blank::new(1)))
+fn main(rt: HostRuntime) -> ExitCode {
+    let status = run_files::<Brand>(&rt, Blank::new(1)).unwrap_or(Status::Memory);
+    ExitCode::from(status.number())
 }
