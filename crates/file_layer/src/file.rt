@@ -1,6 +1,10 @@
 //! A device shown as it is.
-ghost use Rattle.std.specs.Prelude.{◌≡◌, option_map};
+ghost use Rattle.std.specs.Prelude.{◌≡◌, ◌<◌, length, option_map, IsErr, IfOk, IfSome};
+ghost use Rattle.layer_base.specs.Counts.{HasCause, next_count};
+ghost use Rattle.layer_base.specs.Run.{IsWithin, IsTrueOf};
+ghost use Rattle.layer_base.specs.View.{physical};
 ghost use Rattle.layer_base.specs.View.View.{File};
+ghost use Rattle.file_layer.specs.Reach.{ReachesEnd};
 
 use layer_base::{Device, DeviceFailed, Kind, Layer, Run};
 use std::alloc::Global;
@@ -48,7 +52,16 @@ impl<D: Device + Drop> Layer for FileLayer<D> {
         Kind::File
     }
 
-    fn run_at(&mut self, at: u64, buf: &mut [u8]) -> Result<Run, DeviceFailed> {
+    fn run_at(&mut self, at: u64, buf: &mut [u8]) -> Result<Run, DeviceFailed>
+        requires { 0 < length buf.old }
+        ensures within { IfOk result (IsWithin at (length buf.old)) }
+        ensures run { IfSome (option_map File (D.held self.old.device)) (λ view. IfOk result (IsTrueOf (physical view) at buf.new)) }
+        ensures same_view { option_map File (D.held self.new.device) ≡ option_map File (D.held self.old.device) }
+        ensures calls { self.new.calls ≡ next_count self.old.calls }
+        ensures cause { HasCause (D.faults self.old.device) (D.faults self.new.device) (IsErr result) }
+        // A hole reaches to the last address.
+        ensures reach { IfOk result ReachesEnd }
+    {
         self.calls = self.calls.saturating_add(1);
         match self.device.read_at(at, buf) {
             // The device ends here, so it ends for every address that follows.

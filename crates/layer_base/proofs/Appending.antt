@@ -49,15 +49,15 @@ StartsWith-same text = StartsWith-from text text [] (sym (append-nil text))
 pub StartsWith-trans : (text front first : List ℕ) → StartsWith text front → StartsWith front first → StartsWith text first
 StartsWith-trans text front first starts begins =
     StartsWith-from text first (drop (length first) front ++ drop (length front) text) (
-      StartsWith-split text front starts ∙ ap (λ (l : List ℕ). l ++ drop (length front) text) (StartsWith-split front first begins)
-      ∙ append_assoc first (drop (length first) front) (drop (length front) text)
+    StartsWith-split text front starts ∙ ap (λ (l : List ℕ). l ++ drop (length front) text) (StartsWith-split front first begins)
+    ∙ append_assoc first (drop (length first) front) (drop (length front) text)
     )
 
 -- a front of what stands behind a text
 pub StartsWith-behind : (before text front : List ℕ) → StartsWith text front → StartsWith (before ++ text) (before ++ front)
 StartsWith-behind before text front starts =
     StartsWith-from (before ++ text) (before ++ front) (drop (length front) text) (
-      ap (λ (l : List ℕ). before ++ l) (StartsWith-split text front starts) ∙ sym (append_assoc before front (drop (length front) text))
+    ap (λ (l : List ℕ). before ++ l) (StartsWith-split text front starts) ∙ sym (append_assoc before front (drop (length front) text))
     )
 
 -- a prefix of a text, behind what was appended before

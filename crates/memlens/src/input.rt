@@ -9,8 +9,7 @@ use std::io::Input;
 /// Standard input, which nothing else may read meanwhile, since some of it is read ahead.
 #[derive(Drop)]
 pub struct RealInput<R: Input + Drop> {
-    rt: R,
-    reader: Option<R::Reader>,
+    reader: R::Reader,
     ahead: Ahead,
     faults: u64,
 }
@@ -19,8 +18,7 @@ impl<R: Input + Drop> RealInput<R> {
     /// The source of standard input. It reads nothing yet.
     pub fn new(rt: R) -> Self {
         RealInput {
-            rt,
-            reader: None,
+            reader: rt.reader(),
             ahead: Ahead::new(),
             faults: 0,
         }
@@ -35,12 +33,7 @@ impl<R: Input + Drop> Source for RealInput<R> {
     ghost faults = { λ source. source.faults };
 
     fn read(&mut self, buf: &mut [u8]) -> Result<usize, Failed> {
-        let mut reader = match self.reader.take() {
-            Some(reader) => reader,
-            None => self.rt.reader(),
-        };
-        let answer = self.ahead.read(&mut reader, buf);
-        self.reader = Some(reader);
+        let answer = self.ahead.read(&mut self.reader, buf);
         count_fault(&mut self.faults, answer)
     }
 }
