@@ -28,13 +28,14 @@ pub(crate) fn run_line<Y: Layer, O: Sink>(
     match parse_line(alloc, line) {
         Ok(Command::Nothing) => Ok(()),
         Ok(Command::Read { at, len }) => write_dump(alloc, image, at, len, out),
-        Err(LineFault::TooLong) => write_error(out, b"error: line too long\n"),
-        Err(LineFault::Unknown) => write_error(out, b"error: unknown command\n"),
+        Err(LineFault::TooLong) => write_text(out, b"error: line too long\n"),
+        Err(LineFault::Unknown) => write_text(out, b"error: unknown command\n"),
         Err(LineFault::Memory) => Err(CommandFault::Memory),
     }
 }
 
-fn write_error<O: Sink>(out: &mut O, text: &[u8]) -> Result<(), CommandFault>
+/// Writes a line of its own.
+pub(crate) fn write_text<O: Sink>(out: &mut O, text: &[u8]) -> Result<(), CommandFault>
     ensures text { Writes (O.written out.old) (O.written out.new) result text.now }
     ensures out { HasCause (O.faults out.old) (O.faults out.new) (IsErrOf result CommandFault.Out) }
     ensures image { IsErrOf result CommandFault.Image → ⊥ }

@@ -1,21 +1,22 @@
 //! The top call: a run of a script over an image.
-ghost use Rattle.std.specs.Prelude.{◌≡◌, ℕ, ◌≤◌, ◌⊎◌, List, [], map, string_bytes, IfSome, IsErrOf};
+ghost use Rattle.std.specs.Prelude.{◌≡◌, ℕ, ◌≤◌, ◌⊎◌, List, [], map, string_bytes, IfSome};
 ghost use Rattle.std.specs.Io.KnownBytes.{Appends, Consumes};
 ghost use Rattle.layer_base.specs.Counts.{HasCause};
-ghost use Rattle.layer_base.specs.Known.{AppendsPrefix, Writes};
+ghost use Rattle.layer_base.specs.Known.{AppendsPrefix};
 ghost use Rattle.layer_base.specs.SameLayer.{IsSameLayer};
 ghost use Rattle.layer_base.specs.View.{physical};
 ghost use Rattle.session.specs.Causes.{NothingFailed};
 ghost use Rattle.session.specs.Headline.{WhereTold, GavePrefix, HasWholeLines};
 ghost use Rattle.session.specs.Ran.{IsScriptEnd, RanOver};
-ghost use Rattle.session.specs.Run.{refused, run_of};
+ghost use Rattle.session.specs.Run.{run_of};
 ghost use Rattle.session.specs.Status.{IsAnswer};
 
 use crate::Status;
+use crate::command::write_text;
 use crate::script::run_script;
-use crate::status::{CommandFault, status_after};
+use crate::status::status_after;
 use crate::words::are_accepted;
-use layer_base::{Kind, Layer, Sink, Source, Steps, write_whole};
+use layer_base::{Kind, Layer, Sink, Source, Steps};
 use std::alloc::Global;
 use std::sync::ledger::Ledger;
 
@@ -26,17 +27,7 @@ pub struct Ended {
     pub layer: Box<dyn Layer>,
 }
 
-fn refuse_words<O: Sink>(out: &mut O) -> Result<(), CommandFault>
-    ensures text { Writes (O.written out.old) (O.written out.new) result refused.text }
-    ensures out { HasCause (O.faults out.old) (O.faults out.new) (IsErrOf result CommandFault.Out) }
-    ensures image { IsErrOf result CommandFault.Image → ⊥ }
-{
-    write_whole(
-        out,
-        b"usage: memlens IMAGE SYMBOLS [DUMP] [--cache N] [--chunk N]\n",
-    )?;
-    Ok(())
-}
+const USAGE: &[u8] = b"usage: memlens IMAGE SYMBOLS [DUMP] [--cache N] [--chunk N]\n";
 
 // A run over a layer that needn't be boxed.
 fn run_over<Y: Layer, S: Source, O: Sink>(
@@ -56,7 +47,7 @@ fn run_over<Y: Layer, S: Source, O: Sink>(
 {
     let mut image = image;
     if !are_accepted(words) {
-        return (status_after(Status::Usage, refuse_words(out)), image);
+        return (status_after(Status::Usage, write_text(out, USAGE)), image);
     }
     let status = run_script(alloc, &mut image, script, out);
     (status, image)

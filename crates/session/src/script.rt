@@ -1,5 +1,5 @@
 //! Running a script: a byte is taken after another, and a line is run before the next is read.
-ghost use Rattle.std.specs.Prelude.{◌≡◌, codes, option_to_list, IsErr, IsErrOf, IsNone, IfOk, IfSome, OnOk, OnErr};
+ghost use Rattle.std.specs.Prelude.{◌≡◌, option_to_list, IsErr, IsErrOf, IsNone, IfOk, IfSome, OnOk, OnErr};
 ghost use Rattle.std.specs.Io.KnownBytes.{Consumes, Keeps, IsAtEnd};
 ghost use Rattle.layer_base.specs.Counts.{HasCause};
 ghost use Rattle.layer_base.specs.Known.{Writes};
@@ -10,10 +10,10 @@ ghost use Rattle.session.specs.Run.{script_run};
 ghost use Rattle.session.specs.Turn.{turn_text, turn_line, rest_text};
 
 use crate::Status;
-use crate::command::run_line;
+use crate::command::{run_line, write_text};
 use crate::line_buffer::LineBuffer;
 use crate::status::{CommandFault, status_after};
-use layer_base::{Failed, Layer, Sink, Source, write_whole};
+use layer_base::{Failed, Layer, Sink, Source};
 use std::alloc::Global;
 
 /// The most bytes of a script that are read, but for the one that shows that there are more.
@@ -74,16 +74,6 @@ fn run_rest<Y: Layer, O: Sink>(
     }
 }
 
-// Says that the script has more bytes than are read.
-fn refuse_rest<O: Sink>(out: &mut O) -> Result<(), CommandFault>
-    ensures text { Writes (O.written out.old) (O.written out.new) result (codes "script too long\n") }
-    ensures out { HasCause (O.faults out.old) (O.faults out.new) (IsErrOf result CommandFault.Out) }
-    ensures image { IsErrOf result CommandFault.Image → ⊥ }
-{
-    write_whole(out, b"script too long\n")?;
-    Ok(())
-}
-
 /// Runs the lines of a script, one after another, and writes what they print.
 pub(crate) fn run_script<Y: Layer, S: Source, O: Sink>(
     alloc: Global,
@@ -114,6 +104,6 @@ pub(crate) fn run_script<Y: Layer, S: Source, O: Sink>(
     match take_byte(script) {
         Err(Failed) => Status::ScriptFault,
         Ok(None) => status_after(Status::Ok, run_rest(alloc, image, &line, out)),
-        Ok(Some(_)) => status_after(Status::ScriptTooLong, refuse_rest(out)),
+        Ok(Some(_)) => status_after(Status::ScriptTooLong, write_text(out, b"script too long\n")),
     }
 }

@@ -16,9 +16,9 @@ returns-then-not-are_accepted-clause-ran g c =
     let words = map string_bytes c.args.words.now in
     let not_accepted : are_accepted words ≡ false = sym c.if-not-are_accepted.ensures in
     rw c.status_after.ensures (IfSome-always (g.Y.Layer.view c.args.image) (λ view.
-    IfSome-told (g.S.Source.left c.args.script.now) (λ left bytes. (symbols : List ℕ) → RanOver (physical view) (run_of words (physical view) symbols bytes) bytes left (g.O.Sink.written c.args.out.now) (g.O.Sink.written c.refuse_words.new.out) (status_after Usage c.refuse_words.result))
+    IfSome-told (g.S.Source.left c.args.script.now) (λ left bytes. (symbols : List ℕ) → RanOver (physical view) (run_of words (physical view) symbols bytes) bytes left (g.O.Sink.written c.args.out.now) (g.O.Sink.written c.write_text.new.out) (status_after Usage c.write_text.result))
     (IfSome-always (g.S.Source.left c.args.script.now) (λ bytes symbols.
-    rw (run_of-refused words (physical view) symbols bytes not_accepted) (words-refused (physical view) bytes _ _ c.refuse_words.result c.refuse_words.ensures.text)))))
+    rw (run_of-refused words (physical view) symbols bytes not_accepted) (words-refused (physical view) bytes _ _ c.write_text.result c.write_text.ensures.text)))))
 
 pub returns-clause-ran : goal.returns-clause-ran
 returns-clause-ran g c =

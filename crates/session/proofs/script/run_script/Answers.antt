@@ -76,4 +76,4 @@ returns-in-Ok-Some-take_byte-clause-ran g c =
     let most : c.loop.counter ≡ 16777216 = omega arith in
     rw c.status_after-in-Ok-Some-take_byte.ensures (IfSome_then (g.Y.Layer.view c.args.image.now) c.loop.invariant.underway (λ view told.
     IfSome_then (g.S.Source.left c.args.script.now) told (λ bytes underway.
-    script-too_long (physical view) bytes _ _ _ _ c.loop.line c.loop.counter underway byte (g.O.Sink.written c.refuse_rest.new.out) c.refuse_rest.result most taken c.refuse_rest.ensures.text)))
+    script-too_long (physical view) bytes _ _ _ _ c.loop.line c.loop.counter underway byte (g.O.Sink.written c.write_text.new.out) c.write_text.result most taken c.write_text.ensures.text)))
