@@ -2,3 +2,5 @@ pub mod Appending
 pub mod BytesFrom
 pub mod Counting
 pub mod Played
+pub mod Ranges
+pub mod Stretches

@@ -2,5 +2,9 @@ pub mod AddressSpace
 pub mod Counts
 pub mod Known
 pub mod Memory
+pub mod Ranges
+pub mod Reading
 pub mod Run
+pub mod Stretch
 pub mod View
+pub mod Why
