@@ -1,6 +1,6 @@
 -- How causes add up over one call after another.
 use Rattle.std.proofs.Common.{ℕ, ◌≤◌, arith}
-use Rattle.layer_base.specs.Counts.{HasCause}
+use Rattle.layer_base.specs.Counts.{HasCause, Rose}
 
 -- a count that fell at no earlier call
 pub HasCause-after : (start before now : ℕ) (P : Type 0) → start ≤ before → HasCause before now P → HasCause start now P
