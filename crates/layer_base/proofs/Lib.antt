@@ -2,5 +2,6 @@ pub mod Appending
 pub mod BytesFrom
 pub mod Counting
 pub mod Played
+pub mod Present
 pub mod Ranges
 pub mod Stretches

@@ -2,6 +2,7 @@ pub mod AddressSpace
 pub mod Counts
 pub mod Known
 pub mod Memory
+pub mod Present
 pub mod Ranges
 pub mod Reading
 pub mod Run
