@@ -45,11 +45,11 @@ present_from-File held at zero few = refl
 present_from-File held at (suc n) few =
     elim (cases_lt at (length held)) [
       | inl lt ↦
-        let here = physical-File held at few ∙ slice_get-get_or held at 0 lt in
-        let one : suc at ≡ at + 1 = omega arith in
-        let split : drop at held ≡ get_or held at 0 ∷ drop (at + 1) held = drop-cons held at 0 lt ∙ ap (λ p. get_or held at 0 ∷ drop p held) one in
-        rw (here, split) (ap (λ (l : List ℕ). get_or held at 0 ∷ l) (present_from-File held (at + 1) n few))
+          let here = physical-File held at few ∙ slice_get-get_or held at 0 lt in
+          let one : suc at ≡ at + 1 = omega arith in
+          let split : drop at held ≡ get_or held at 0 ∷ drop (at + 1) held = drop-cons held at 0 lt ∙ ap (λ p. get_or held at 0 ∷ drop p held) one in
+          rw (here, split) (ap (λ (l : List ℕ). get_or held at 0 ∷ l) (present_from-File held (at + 1) n few))
       | inr ge ↦
-        let here = physical-File held at few ∙ slice_get_past held at ge in
-        rw (here, drop_all at held ge) refl
+          let here = physical-File held at few ∙ slice_get_past held at ge in
+          rw (here, drop_all at held ge) refl
     ]

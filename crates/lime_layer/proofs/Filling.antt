@@ -8,17 +8,23 @@ use Rattle.std.proofs.lemmas.Option.{slice_get_past}
 use Rattle.layer_base.specs.Present.{present_from}
 use Rattle.layer_base.specs.View.{physical}
 use Rattle.layer_base.specs.View.View.{File}
-use Rattle.layer_base.proofs.Present.{present_from-add, present_from-end, present_from-File}
+use Rattle.layer_base.proofs.Present.{present_from-absent, present_from-add, present_from-end, present_from-File}
 use Rattle.layer_base.proofs.Stretches.{physical-File, physical-past}
 
 -- the front of a buffer is what is present
 abbrev pub Holds : List ℕ → ℕ → ℕ → Option (List ℕ) → Type 0
 Holds front place n held = IfSome held (λ bytes. front ≡ present_from (physical (File bytes)) place n)
 
+-- of no bytes none is present
 pub nothing : (place : ℕ) (held : Option (List ℕ)) → Holds [] place 0 held
 unfolding present_from
 nothing place None = tt
 nothing place (Some bytes) = refl
+
+-- no byte has a place past the last
+pub nowhere : (place n : ℕ) (held : Option (List ℕ)) → 2 ^ 64 - 1 < place → Holds [] place n held
+nowhere place n None past = tt
+nowhere place n (Some bytes) past = sym (present_from-absent (physical (File bytes)) place n (physical-past (File bytes) place (omega arith)))
 
 module _ (place done : ℕ) (buf : List ℕ) (inside : done ≤ length buf) where
   -- as many are present as stand in front
@@ -37,7 +43,7 @@ module _ (place done : ℕ) (buf : List ℕ) (inside : done ≤ length buf) wher
       let given = rw same at read in
       let size : length (take done buf) ≡ done = omega (arith, length-take done buf) in
       let both : take (done + n) (take done buf ++ (new ++ rest)) ≡ take done buf ++ take n new =
-          ap (λ k. take (k + n) (take done buf ++ (new ++ rest))) (sym size) ∙ take-append-add (take done buf) (new ++ rest) n ∙ ap (λ (l : List ℕ). take done buf ++ l) (take-append-le n new rest fits) in
+      ap (λ k. take (k + n) (take done buf ++ (new ++ rest))) (sym size) ∙ take-append-add (take done buf) (new ++ rest) n ∙ ap (λ (l : List ℕ). take done buf ++ l) (take-append-le n new rest fits) in
       let more : take n new ≡ present_from (physical (File bytes)) (place + done) n = given ∙ sym (present_from-File bytes (place + done) n short) in
       both ∙ (λ i. so_far i ++ more i) ∙ sym (present_from-add (physical (File bytes)) place done n (whole bytes so_far))
 

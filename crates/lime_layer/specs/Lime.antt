@@ -7,7 +7,7 @@
 --          8     8  the first address
 --         16     8  the last address, itself included
 --         24     8  reserved
-use Rattle.std.specs.Prelude.{ℕ, zero, suc, ◌+◌, ◌-◌, Bool, not, ◌==◌, ◌||◌, nat_lt, if◌then◌else◌, List, [], ◌∷◌, ◌++◌, length, drop, Result, Ok, Err}
+use Rattle.std.specs.Prelude.{ℕ, zero, suc, ◌+◌, ◌-◌, Bool, not, ◌==◌, ◌&&◌, ◌||◌, nat_lt, if◌then◌else◌, List, [], ◌∷◌, ◌++◌, length, drop, Result, Ok, Err}
 use Rattle.byteorder.specs.Endian.{little_number}
 use Rattle.layer_base.specs.AddressSpace.{AddressSpace}
 use Rattle.layer_base.specs.Present.{present_from}
@@ -39,6 +39,10 @@ is_cut header = nat_lt (length header) 32
 abbrev pub has_magic : List ℕ → Bool
 has_magic header = magic_of header == 0x4C694D45
 
+-- a header that is whole and has the magic
+abbrev pub is_lime : List ℕ → Bool
+is_lime header = not (is_cut header) && has_magic header
+
 -- the range of a header at a place, or the first rule that it breaks; `above` is the address after the range before it
 unfoldable pub range_of : ℕ → ℕ → List ℕ → Result Segment Rule
 range_of place above header =
@@ -69,9 +73,9 @@ ranges_from zero memory place above = ends_or (present_from memory place 32) (Er
 ranges_from (suc n) memory place above =
     ends_or (present_from memory place 32) (and_behind place (range_of place above (present_from memory place 32)) (λ segment. ranges_from n memory (segment.place + segment.length) (segment.first + segment.length)))
 
--- What LiME reads in a memory: it is of another format where it does not begin with 32 bytes and the magic, and has at
--- most 65,536 ranges.
+-- What LiME reads in a memory: at most 65,536 ranges. A memory that does not begin with 32 bytes and the magic is of
+-- another format.
 unfoldable pub lime : AddressSpace → Result (List Segment) Why
 lime memory =
-    if is_cut (present_from memory 0 32) || not (has_magic (present_from memory 0 32)) then Err NotThis
-    else ranges_from 65536 memory 0 0
+    if is_lime (present_from memory 0 32) then ranges_from 65536 memory 0 0
+    else Err NotThis

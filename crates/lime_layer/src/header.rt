@@ -1,8 +1,8 @@
 //! The header of a range.
-ghost use Rattle.std.specs.Prelude.{◌≡◌, ◌+◌, ◌^◌, ◌≤◌, ◌<◌, not, ◌&&◌, length, drop, take, Some, IsErr, IfOk, IfSome};
+ghost use Rattle.std.specs.Prelude.{◌≡◌, ◌+◌, ◌^◌, ◌≤◌, ◌<◌, length, drop, take, Some, IsErr, IfOk, IfSome};
 ghost use Rattle.byteorder.specs.Endian.{little_number};
 ghost use Rattle.layer_base.specs.Ranges.{IsSegment};
-ghost use Rattle.lime_layer.specs.Lime.{range_of, is_cut, has_magic};
+ghost use Rattle.lime_layer.specs.Lime.{range_of, is_lime};
 
 use byteorder::{ByteOrder, LittleEndian};
 use layer_base::{Rule, Segment};
@@ -23,14 +23,14 @@ pub(crate) struct Header {
     pub(crate) bytes: [u8; 32],
     pub(crate) count: usize,
     ghost some: { 0 < count },
-    ghost within: { count ≤ 32 },
+    ghost within: { count ≤ length bytes },
     ghost places: { place + count ≤ 2 ^ 64 },
 }
 
 impl Header {
     /// Whether it is whole and has the magic.
     pub(crate) fn is_lime(&self) -> bool
-        ensures { result ≡ (not (is_cut (take self.now.count self.now.bytes)) && has_magic (take self.now.count self.now.bytes)) }
+        ensures { result ≡ is_lime (take self.now.count self.now.bytes) }
     {
         let header = &self.bytes[..self.count];
         header.len() == LENGTH && LittleEndian::read_u32(header) == MAGIC

@@ -1,6 +1,6 @@
-use Rattle.std.proofs.Common.{◌≡◌, ℕ, ◌+◌, ◌-◌, ◌<◌, ◌≤◌, List, length, take, drop, length-take, length-drop, Option, None, Some, refl, sym, ap, ◌∙◌, arith}
+use Rattle.std.proofs.Common.{ℕ, length, length-take, length-drop, refl, ◌∙◌, arith}
 use Rattle.std.proofs.lemmas.Option.{IfSome_then}
-use Rattle.lime_layer.proofs.Filling.{Holds, nothing, filled, ended, full}
+use Rattle.lime_layer.proofs.Filling.{nothing, filled, ended, full}
 use Rattle.lime_layer.proofs.read.fill.Goals as goal
 
 pub loop-done-init : goal.loop-done-init
