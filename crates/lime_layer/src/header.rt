@@ -5,7 +5,7 @@ ghost use Rattle.layer_base.specs.Ranges.{IsSegment};
 ghost use Rattle.lime_layer.specs.Lime.{range_of, is_lime};
 
 use byteorder::{ByteOrder, LittleEndian};
-use layer_base::{Rule, Segment};
+use layer_base::{Rule, Segment, Why};
 
 /// How long a header is.
 pub(crate) const LENGTH: usize = 32;
@@ -42,6 +42,16 @@ impl Header {
         ensures fit { IfOk result IsSegment }
     {
         range_in(&self.bytes[..self.count], self.place, above)
+    }
+
+    /// The refusal of a header that breaks a rule.
+    pub(crate) fn refusal(&self, rule: Rule) -> Why
+        ensures { result ≡ Why.Bad self.now.place rule }
+    {
+        Why::Bad {
+            at: self.place,
+            rule,
+        }
     }
 }
 

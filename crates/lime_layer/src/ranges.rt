@@ -47,10 +47,7 @@ fn ranges_of<D: Device>(alloc: Global, device: &mut D, header: Header) -> Result
         };
         let segment = match header.range(above) {
             Ok(segment) => segment,
-            Err(rule) => return Err(Why::Bad {
-                at: header.place,
-                rule,
-            }),
+            Err(rule) => return Err(header.refusal(rule)),
         };
         segments.add(segment)?;
         above = u128::from(segment.first) + segment.length;
@@ -58,9 +55,6 @@ fn ranges_of<D: Device>(alloc: Global, device: &mut D, header: Header) -> Result
     }
     match next {
         None => Ok(segments),
-        Some(header) => Err(Why::Bad {
-            at: header.place,
-            rule: Rule::Many,
-        }),
+        Some(header) => Err(header.refusal(Rule::Many)),
     }
 }

@@ -31,9 +31,8 @@ returns-in_default-clause-reading g c =
 
 pub returns-in-Err-clause-reading : goal.returns-in-Err-clause-reading
 returns-in-Err-clause-reading g c =
-    IfSome_then (g.D.Device.held c.args.device.now) c.loop.invariant.reading (λ bytes so_far is.
-    read-bad (physical (File bytes)) 65536 c.loop.counter c.loop.above c.loop.segments c.in-Some.header c.in-Some.header.some c.in-Some.header.within
-    (at_header (physical (File bytes)) 65536 c.loop.counter c.loop.above c.loop.segments c.loop.next c.in-Some.header c.in-Some.is (so_far is)) c.in-Err.rule c.loop-test.true c.in-Err.ensures.range)
+    IfSome_then (g.D.Device.held c.args.device.now) c.loop.invariant.reading (λ bytes so_far is. rw c.refusal.ensures (read-bad (physical (File bytes)) 65536 c.loop.counter c.loop.above c.loop.segments c.in-Some.header c.in-Some.header.some c.in-Some.header.within
+    (at_header (physical (File bytes)) 65536 c.loop.counter c.loop.above c.loop.segments c.loop.next c.in-Some.header c.in-Some.is (so_far is)) c.in-Err.rule c.loop-test.true c.in-Err.ensures.range))
 
 pub loop-preserved : goal.loop-preserved
 loop-preserved g c =
@@ -56,6 +55,5 @@ returns-in-None-clause-reading g c =
 
 pub returns-in-Some-next-clause-reading : goal.returns-in-Some-next-clause-reading
 returns-in-Some-next-clause-reading g c =
-    IfSome_then (g.D.Device.held c.args.device.now) c.loop.invariant.reading (λ bytes so_far is.
-    read-many (physical (File bytes)) 65536 c.loop.counter c.loop.above c.loop.segments c.in-Some-next.header c.in-Some-next.header.some c.in-Some-next.header.within
-    (at_header (physical (File bytes)) 65536 c.loop.counter c.loop.above c.loop.segments c.loop.next c.in-Some-next.header c.in-Some-next.is (so_far is)) c.loop-test.false)
+    IfSome_then (g.D.Device.held c.args.device.now) c.loop.invariant.reading (λ bytes so_far is. rw c.refusal-in-Some-next.ensures (read-many (physical (File bytes)) 65536 c.loop.counter c.loop.above c.loop.segments c.in-Some-next.header c.in-Some-next.header.some c.in-Some-next.header.within
+    (at_header (physical (File bytes)) 65536 c.loop.counter c.loop.above c.loop.segments c.loop.next c.in-Some-next.header c.in-Some-next.is (so_far is)) c.loop-test.false))
