@@ -32,7 +32,7 @@ returns-in_default-clause-reading g c =
 pub returns-in-Err-clause-reading : goal.returns-in-Err-clause-reading
 returns-in-Err-clause-reading g c =
     IfSome_then (g.D.Device.held c.args.device.now) c.loop.invariant.reading (λ bytes so_far is. rw c.refusal.ensures (read-bad (physical (File bytes)) 65536 c.loop.counter c.loop.above c.loop.segments c.in-Some.header c.in-Some.header.some c.in-Some.header.within
-    (at_header (physical (File bytes)) 65536 c.loop.counter c.loop.above c.loop.segments c.loop.next c.in-Some.header c.in-Some.is (so_far is)) c.in-Err.rule c.loop-test.true c.in-Err.ensures.range))
+    (at_header (physical (File bytes)) 65536 c.loop.counter c.loop.above c.loop.segments c.loop.next c.in-Some.header c.in-Some.is (so_far is)) c.in-Err.rule (omega arith) c.in-Err.ensures.range))
 
 pub loop-preserved : goal.loop-preserved
 loop-preserved g c =
@@ -45,7 +45,7 @@ loop-preserved g c =
       reading = both-told (g.D.Device.held c.args.device.now) (g.D.Device.held c.loop.device) loop.same loop.reading c.in_ok-next.ensures.bytes (λ bytes so_far next is.
           let more = read-more (physical (File bytes)) 65536 c.loop.counter c.loop.above c.loop.segments c.in-Some.header c.in-Some.header.some c.in-Some.header.within
           (at_header (physical (File bytes)) 65536 c.loop.counter c.loop.above c.loop.segments c.loop.next c.in-Some.header c.in-Some.is (so_far is))
-          c.in-Ok.segment c.in_ok-next.next c.loop-test.true c.in-Ok.ensures.range c.in_ok-next.ensures.place next in
+          c.in-Ok.segment c.in_ok-next.next (omega arith) c.in-Ok.ensures.range c.in_ok-next.ensures.place next in
           rw (c.from.ensures, c.in_ok-add.ensures.ok) more);
     }
 
@@ -56,4 +56,4 @@ returns-in-None-clause-reading g c =
 pub returns-in-Some-next-clause-reading : goal.returns-in-Some-next-clause-reading
 returns-in-Some-next-clause-reading g c =
     IfSome_then (g.D.Device.held c.args.device.now) c.loop.invariant.reading (λ bytes so_far is. rw c.refusal-in-Some-next.ensures (read-many (physical (File bytes)) 65536 c.loop.counter c.loop.above c.loop.segments c.in-Some-next.header c.in-Some-next.header.some c.in-Some-next.header.within
-    (at_header (physical (File bytes)) 65536 c.loop.counter c.loop.above c.loop.segments c.loop.next c.in-Some-next.header c.in-Some-next.is (so_far is)) c.loop-test.false))
+    (at_header (physical (File bytes)) 65536 c.loop.counter c.loop.above c.loop.segments c.loop.next c.in-Some-next.header c.in-Some-next.is (so_far is)) (omega arith)))
