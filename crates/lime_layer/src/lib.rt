@@ -7,3 +7,6 @@ mod ranges;
 mod read;
 
 pub use ranges::lime_of;
+
+#[cfg(test)]
+mod tests;
