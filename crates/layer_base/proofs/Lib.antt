@@ -4,3 +4,6 @@ pub mod Counting
 pub mod Layers
 pub mod Physical
 pub mod Played
+pub mod Present
+pub mod Ranges
+pub mod Stretches

@@ -2,6 +2,11 @@ pub mod AddressSpace
 pub mod Counts
 pub mod Known
 pub mod Memory
+pub mod Present
+pub mod Ranges
+pub mod Reading
 pub mod Run
 pub mod SameLayer
+pub mod Stretch
 pub mod View
+pub mod Why
