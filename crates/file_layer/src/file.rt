@@ -1,21 +1,24 @@
-//! A device shown as it is.
+//! A device, shown as it is or as the container that it holds.
 ghost use Rattle.std.specs.Prelude.{◌≡◌, ◌<◌, length, option_map, IsErr, IfOk, IfSome};
 ghost use Rattle.layer_base.specs.Counts.{HasCause, next_count};
 ghost use Rattle.layer_base.specs.Run.{IsWithin, IsTrueOf};
+ghost use Rattle.layer_base.specs.Reading.{ReachesTo};
 ghost use Rattle.layer_base.specs.View.{physical};
 ghost use Rattle.layer_base.specs.View.View.{File};
-ghost use Rattle.file_layer.specs.Reach.{ReachesEnd};
+ghost use Rattle.file_layer.specs.Shown.{shown, kind_of, reach_of_view};
 
-use layer_base::{Device, DeviceFailed, Kind, Layer, Run};
+use layer_base::{Device, DeviceFailed, Kind, Layer, Reading, Run, Why, run_of_reading};
+use lime_layer::lime_of;
 use std::alloc::Global;
 
-/// An image that is the bytes of its device: what stands at a place of the device stands at that physical address,
-/// and every address from the device's end on is a hole.
+/// An image over one device. At first it is the bytes of the device: what stands at a place of the device stands at
+/// that physical address, and every address from the device's end on is a hole. A container that is attached shows
+/// its ranges instead.
 #[derive(Drop)]
 pub struct FileLayer<D: Device + Drop> {
-    /// Where the reading of a container is to be kept in memory.
     alloc: Global,
     device: D,
+    reading: Reading,
     calls: u64,
 }
 
@@ -30,44 +33,56 @@ impl<D: Device + Drop> FileLayer<D> {
         FileLayer {
             alloc,
             device,
+            reading: Reading::Raw,
             calls: 0,
         }
     }
 }
 
 impl<D: Device + Drop> Layer for FileLayer<D> {
-    ghost use Rattle.std.specs.Prelude.{option_map};
-    ghost use Rattle.layer_base.specs.View.View.{File};
-    ghost use Rattle.layer_base.specs.declared.layer.Kind.TheVariants.{File as FileKind};
+    ghost use Rattle.file_layer.specs.Shown.{shown, kind_of};
 
-    ghost view = { λ layer. option_map File (D.held layer.device) };
+    ghost view = { λ layer. shown layer.reading (D.held layer.device) };
 
-    ghost kind = { λ layer. FileKind };
+    ghost kind = { λ layer. kind_of layer.reading };
 
     ghost faults = { λ layer. D.faults layer.device };
 
     ghost calls = { λ layer. layer.calls };
 
     fn kind(&self) -> Kind {
-        Kind::File
+        match self.reading {
+            Reading::Raw => Kind::File,
+            Reading::Ranges(_) => Kind::Lime,
+        }
+    }
+
+    fn attach(&mut self, format: Kind, _param: u64) -> Result<(), Why> {
+        if let Reading::Ranges(_) = self.reading {
+            return Err(Why::Taken);
+        }
+        match format {
+            Kind::File => unreachable!(),
+            Kind::Lime => {
+                let segments = lime_of(self.alloc, &mut self.device)?;
+                self.reading = Reading::Ranges(segments);
+                Ok(())
+            }
+        }
     }
 
     fn run_at(&mut self, at: u64, buf: &mut [u8]) -> Result<Run, DeviceFailed>
         requires { 0 < length buf.old }
         ensures within { IfOk result (IsWithin at (length buf.old)) }
-        ensures run { IfSome (option_map File (D.held self.old.device)) (λ view. IfOk result (IsTrueOf (physical view) at buf.new)) }
-        ensures same_view { option_map File (D.held self.new.device) ≡ option_map File (D.held self.old.device) }
+        ensures run { IfSome (shown self.old.reading (D.held self.old.device)) (λ view. IfOk result (IsTrueOf (physical view) at buf.new)) }
+        ensures same_view { shown self.new.reading (D.held self.new.device) ≡ shown self.old.reading (D.held self.old.device) }
+        ensures same_kind { kind_of self.new.reading ≡ kind_of self.old.reading }
         ensures calls { self.new.calls ≡ next_count self.old.calls }
         ensures cause { HasCause (D.faults self.old.device) (D.faults self.new.device) (IsErr result) }
-        // A hole reaches to the last address.
-        ensures reach { IfOk result ReachesEnd }
+        // How far a hole reaches.
+        ensures reach { IfSome (shown self.old.reading (D.held self.old.device)) (λ view. IfOk result (ReachesTo (reach_of_view view at))) }
     {
         self.calls = self.calls.saturating_add(1);
-        match self.device.read_at(at, buf) {
-            // The device ends here, so it ends for every address that follows.
-            Ok(0) => Ok(Run::Absent { last: u64::MAX }),
-            Ok(count) => Ok(Run::Present { count }),
-            Err(_) => Err(DeviceFailed),
-        }
+        run_of_reading(&mut self.device, &self.reading, at, buf)
     }
 }

@@ -1,6 +1,8 @@
 pub mod AddressSpace
+pub mod Attach
 pub mod Counts
 pub mod Known
+pub mod Lime
 pub mod Memory
 pub mod Present
 pub mod Ranges

@@ -1,5 +1,7 @@
 //! A layer: one device, shown as the memory that an image stands for.
-ghost use Rattle.std.specs.Prelude.{◌≡◌, ℕ, ◌<◌, Option, length, IsErr, IfOk, IfSome};
+ghost use Rattle.std.specs.Prelude.{◌≡◌, ◌≢◌, ◌↔◌, ℕ, ◌<◌, Option, length, IsErr, IsErrOf, IfOk, IfSome, OnOk, OnErr};
+
+use crate::Why;
 
 /// A call on the layer's device failed.
 #[derive(Clone, Copy, Debug, PartialEq, Eq)]
@@ -24,6 +26,7 @@ pub enum Run {
 
 /// An image of memory over one device.
 pub trait Layer: Drop {
+    ghost use Rattle.layer_base.specs.Attach.{reading_of, Attaches};
     ghost use Rattle.layer_base.specs.Counts.{HasCause, next_count};
     ghost use Rattle.layer_base.specs.Run.{IsWithin, IsTrueOf};
     ghost use Rattle.layer_base.specs.View.{View, IsFile, physical};
@@ -44,6 +47,21 @@ pub trait Layer: Drop {
     fn kind(&self) -> Kind
         ensures kind { result ≡ kind self.now }
         ensures file { kind self.now ≡ Kind.File → IfSome (view self.now) IsFile };
+
+    /// Reads the layer as a container of a format, which becomes its kind: from then on it shows the ranges of the
+    /// container over what it showed before. `param` is unused by the formats so far. `Taken` comes first, and exactly
+    /// where the layer is read as a container already. When `Memory` comes is left open. After every refusal the
+    /// layer is the same.
+    fn attach(&mut self, format: Kind, param: u64) -> Result<(), Why>
+        requires { format ≢ Kind.File }
+        ensures kind { OnOk result (kind self.new ≡ format) }
+        ensures reading { kind self.old ≡ Kind.File → IfSome (view self.old) (λ before.
+            Attaches (reading_of format (physical before)) before (view self.new) result) }
+        ensures taken { IsErrOf result Why.Taken ↔ (kind self.old ≢ Kind.File) }
+        ensures same_view { OnErr result (view self.new ≡ view self.old) }
+        ensures same_kind { OnErr result (kind self.new ≡ kind self.old) }
+        ensures calls { calls self.new ≡ calls self.old }
+        ensures cause { HasCause (faults self.old) (faults self.new) (IsErrOf result Why.Device) };
 
     /// Says what is at the addresses from `at` on: at least one byte and as many as the layer likes, or a hole.
     /// After a failure what the buffer holds is open.
@@ -68,6 +86,10 @@ impl Layer for Box<dyn Layer> {
 
     fn kind(&self) -> Kind {
         (**self).kind()
+    }
+
+    fn attach(&mut self, format: Kind, param: u64) -> Result<(), Why> {
+        (**self).attach(format, param)
     }
 
     fn run_at(&mut self, at: u64, buf: &mut [u8]) -> Result<Run, DeviceFailed> {

@@ -11,7 +11,7 @@ use Rattle.layer_base.specs.declared.why.Why.{Why}
 use Rattle.layer_base.specs.declared.why.Why.TheVariants.{NotThis, Bad}
 use Rattle.lime_layer.specs.declared.header.Header.{Header}
 use Rattle.lime_layer.specs.Header.{bytes_of}
-use Rattle.lime_layer.specs.Lime.{range_of, with_front, ends_or, and_behind, ranges_from, is_lime, lime}
+use Rattle.layer_base.specs.Lime.{range_of, with_front, ends_or, and_behind, ranges_from, is_lime, lime}
 
 -- `front` was read, and the ranges from the next header on are left
 pub record IsReadTo (memory : AddressSpace) (most read : ℕ) (next : Option Header) (above : ℕ) (front : List Segment) : Type 0 where

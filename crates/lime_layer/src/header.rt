@@ -2,7 +2,7 @@
 ghost use Rattle.std.specs.Prelude.{◌≡◌, ◌+◌, ◌^◌, ◌≤◌, ◌<◌, length, drop, take, Some, IsErr, IfOk, IfSome};
 ghost use Rattle.byteorder.specs.Endian.{little_number};
 ghost use Rattle.layer_base.specs.Ranges.{IsSegment};
-ghost use Rattle.lime_layer.specs.Lime.{range_of, is_lime};
+ghost use Rattle.layer_base.specs.Lime.{range_of, is_lime};
 
 use byteorder::{ByteOrder, LittleEndian};
 use layer_base::{Rule, Segment, Why};
@@ -55,7 +55,7 @@ impl Header {
     }
 }
 
-#[tactic(auto, unfolding(crate::specs::Lime::range_of))]
+#[tactic(auto, unfolding(layer_base::specs::Lime::range_of))]
 fn range_in(header: &[u8], place: u64, above: u128) -> Result<Segment, Rule>
     requires { place + length header.now ≤ 2 ^ 64 }
     ensures range { result ≡ range_of place above header.now }

@@ -5,7 +5,7 @@ ghost use Rattle.layer_base.specs.Present.{present_from};
 ghost use Rattle.layer_base.specs.View.{physical};
 ghost use Rattle.layer_base.specs.View.View.{File};
 ghost use Rattle.layer_base.specs.Why.{AnswersAs};
-ghost use Rattle.lime_layer.specs.Lime.{lime, ranges_from};
+ghost use Rattle.layer_base.specs.Lime.{lime, ranges_from};
 
 use crate::header::Header;
 use crate::read::header_at;
