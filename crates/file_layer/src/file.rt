@@ -62,7 +62,7 @@ impl<D: Device + Drop> Layer for FileLayer<D> {
             return Err(Why::Taken);
         }
         match format {
-            Kind::File => unreachable!(),
+            Kind::File => Err(Why::NotThis),
             Kind::Lime => {
                 let segments = lime_of(self.alloc, &mut self.device)?;
                 self.reading = Reading::Ranges(segments);

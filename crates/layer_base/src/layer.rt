@@ -49,11 +49,10 @@ pub trait Layer: Drop {
         ensures file { kind self.now ≡ Kind.File → IfSome (view self.now) IsFile };
 
     /// Reads the layer as a container of a format, which becomes its kind: from then on it shows the ranges of the
-    /// container over what it showed before. `param` is unused by the formats so far. `Taken` comes first, and exactly
-    /// where the layer is read as a container already. When `Memory` comes is left open. After every refusal the
-    /// layer is the same.
+    /// container over what it showed before. `File` is no container, and so `NotThis`. `param` is unused by the
+    /// formats so far. `Taken` comes first, and exactly where the layer is read as a container already. When `Memory`
+    /// comes is left open. After every refusal the layer is the same.
     fn attach(&mut self, format: Kind, param: u64) -> Result<(), Why>
-        requires { format ≢ Kind.File }
         ensures kind { OnOk result (kind self.new ≡ format) }
         ensures reading { kind self.old ≡ Kind.File → IfSome (view self.old) (λ before.
             Attaches (reading_of format (physical before)) before (view self.new) result) }
