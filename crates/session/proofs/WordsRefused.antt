@@ -1,17 +1,15 @@
 -- A run whose words are refused.
-use Rattle.std.proofs.Common.{◌≡◌, ℕ, Bool, true, false, List, [], Option, Some, Result, Ok, Err, refl, sym, ◌∙◌, ap}
-use Rattle.std.specs.Io.{StartsWith}
-use Rattle.std.specs.Io.KnownBytes.{Appends, Consumes}
+use Rattle.std.proofs.Common.{◌≡◌, ℕ, true, false, List, [], Option, Some, Result, Ok, Err, refl}
 use Rattle.layer_base.specs.AddressSpace.{AddressSpace}
 use Rattle.layer_base.specs.Known.{Writes}
-use Rattle.layer_base.proofs.Appending.{StartsWith-from, StartsWith-same}
-use Rattle.session.specs.Ran.{Ran, RanOver}
+use Rattle.layer_base.proofs.Appending.{StartsWith-same}
+use Rattle.session.specs.Ran.{RanOver}
 use Rattle.session.specs.Run.{refused, script_run, run_of}
-use Rattle.session.specs.Status.{IsAnswer, status_of_fault, status_after}
+use Rattle.session.specs.Status.{IsAnswer, status_after}
 use Rattle.session.specs.Words.{are_accepted}
 use Rattle.session.specs.declared.status.CommandFault.{CommandFault}
 use Rattle.session.specs.declared.status.Status.TheVariants as status
-use Rattle.session.proofs.Ending.{Piece, piece_of, fault_is_no_answer, fault_is_of_no_script}
+use Rattle.session.proofs.Ending.{piece_of, fault_is_no_answer}
 
 pub run_of-accepted : (words : List (List ℕ)) (memory : AddressSpace) (symbols script : List ℕ) → are_accepted words ≡ true → run_of words memory symbols script ≡ script_run memory script
 unfolding run_of
