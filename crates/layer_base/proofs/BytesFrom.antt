@@ -1,5 +1,5 @@
 -- The laws of the bytes from an address on.
-use Rattle.std.proofs.Common.{◌≡◌, ℕ, zero, suc, ◌+◌, ◌<◌, List, [], ◌∷◌, ◌++◌, length, replicate, Option, None, refl, sym, ◌∙◌, ap, arith}
+use Rattle.std.proofs.Common.{◌≡◌, ℕ, zero, suc, ◌+◌, ◌<◌, [], ◌∷◌, ◌++◌, length, replicate, None, refl, ◌∙◌, ap, arith}
 use Rattle.layer_base.specs.AddressSpace.{AddressSpace, bytes_from}
 
 pub length-bytes_from : (memory : AddressSpace) (at n : ℕ) → length (bytes_from memory at n) ≡ n

@@ -1,8 +1,8 @@
 -- Cells that are added.
-use Rattle.std.proofs.Common.{◌≡◌, ℕ, ◌+◌, ◌-◌, ◌<◌, ◌≤◌, List, ◌++◌, length, replicate, Option, None, sym, ◌∙◌, ap, arith, length-append}
+use Rattle.std.proofs.Common.{◌≡◌, ℕ, ◌+◌, ◌-◌, ◌≤◌, List, ◌++◌, length, replicate, Option, None, sym, ◌∙◌, ap, arith, length-append}
 use Rattle.std.proofs.lemmas.List.{length-replicate}
 use Rattle.layer_base.specs.AddressSpace.{AddressSpace, bytes_from}
-use Rattle.layer_base.proofs.BytesFrom.{bytes_from-absent, bytes_from-add, length-bytes_from}
+use Rattle.layer_base.proofs.BytesFrom.{bytes_from-absent, bytes_from-add}
 use Rattle.session.specs.Read.{AddsCells}
 
 -- cells of a hole

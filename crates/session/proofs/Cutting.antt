@@ -1,5 +1,5 @@
 -- How the cut into lines goes on with one byte more.
-use Rattle.std.proofs.Common.{◌≡◌, ℕ, Bool, true, false, cond, eqb, List, [], ◌∷◌, ◌++◌, length, take, drop, refl, sym, ◌∙◌, ap}
+use Rattle.std.proofs.Common.{◌≡◌, ℕ, Bool, true, false, cond, eqb, List, [], ◌∷◌, ◌++◌, refl, sym, ◌∙◌, ap}
 use Rattle.session.specs.Lines.{Lines, onto_front, cut_lines}
 
 -- the cut after one byte more, by whether it is a newline

@@ -1,16 +1,14 @@
 -- How a script ends, from where it is being run.
-use Rattle.std.proofs.Common.{◌≡◌, ℕ, ◌+◌, ◌<◌, ◌≤◌, Bool, true, false, List, [], ◌∷◌, ◌++◌, length, take, Option, None, Some, Result, Ok, Err, refl, sym, subst, ◌∙◌, ap, arith, append_assoc, length-append}
+use Rattle.std.proofs.Common.{◌≡◌, ℕ, ◌<◌, ◌≤◌, true, false, List, [], ◌∷◌, ◌++◌, length, take, Option, Some, Result, Ok, Err, refl, sym, subst, ◌∙◌, ap, arith, append_assoc, length-append}
 use Rattle.std.specs.Prelude.{codes}
-use Rattle.std.proofs.lemmas.List.{append-nil, take_at, take_all, length_push}
-use Rattle.std.proofs.Math.Seq.{take-append-add}
+use Rattle.std.proofs.lemmas.List.{append-nil, take_at, length_push}
 use Rattle.std.specs.Io.{StartsWith}
 use Rattle.std.specs.Io.KnownBytes.{Appends, Consumes, IsAtEnd, Keeps}
 use Rattle.layer_base.specs.AddressSpace.{AddressSpace}
 use Rattle.layer_base.specs.Known.{AppendsPrefix, Writes}
-use Rattle.layer_base.proofs.Appending.{Appends-none, Appends-append, StartsWith-from, StartsWith-front, StartsWith-same, StartsWith-trans, StartsWith-behind}
-use Rattle.session.specs.Headline.{lines_before_last}
+use Rattle.layer_base.proofs.Appending.{Appends-append, StartsWith-front, StartsWith-same, StartsWith-trans, StartsWith-behind}
 use Rattle.session.specs.Lines.{cut_lines}
-use Rattle.session.specs.Ran.{Ran, RanOver}
+use Rattle.session.specs.Ran.{RanOver}
 use Rattle.session.specs.Run.{script_run}
 use Rattle.session.specs.Script.{is_short, script_text, script_taken, texts_of}
 use Rattle.session.specs.Status.{IsAnswer, status_of_fault, status_after}
@@ -18,7 +16,6 @@ use Rattle.session.specs.Turn.{turn_text, rest_text}
 use Rattle.session.specs.declared.line_buffer.TheConstants.{LINE_ROOM}
 use Rattle.session.specs.declared.status.CommandFault.{CommandFault}
 use Rattle.session.specs.declared.status.CommandFault.TheVariants as fault
-use Rattle.session.specs.declared.status.Status.{Status}
 use Rattle.session.specs.declared.status.Status.TheVariants as status
 use Rattle.session.proofs.Clipped.{rest_text-clipped}
 use Rattle.session.proofs.Texts.{texts-push, lines_before_last-push, texts-before_last}

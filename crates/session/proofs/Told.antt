@@ -1,5 +1,5 @@
 -- What is known where something is told.
-use Rattle.std.proofs.Common.{◌≡◌, Option, None, Some}
+use Rattle.std.proofs.Common.{Option, None, Some}
 use Rattle.std.specs.Prelude.{IfSome}
 
 pub IfSome-always : {X : Type 0} (told : Option X) {P : X → Type 0} → ((x : X) → P x) → IfSome told P

@@ -1,19 +1,14 @@
 -- A script that is being run.
-use Rattle.std.proofs.Common.{◌≡◌, ℕ, ◌+◌, ◌<◌, ◌≤◌, Bool, true, false, List, [], ◌∷◌, ◌++◌, length, take, drop, Option, None, Some, Result, Ok, Err, refl, sym, subst, ◌∙◌, ap, arith, append_assoc, take-append-drop, ltb}
-use Rattle.std.proofs.lemmas.Bool.Decides.{nat_tests}
-use Rattle.std.proofs.lemmas.List.{append-nil, take_at, take_all, length_push}
-use Rattle.std.proofs.Math.Seq.{take-append-add}
-use Rattle.std.specs.Io.{StartsWith}
+use Rattle.std.proofs.Common.{◌≡◌, ℕ, ◌+◌, List, [], ◌∷◌, ◌++◌, length, take, Option, None, Some, refl, sym, subst, ◌∙◌, ap, arith, append_assoc}
+use Rattle.std.proofs.lemmas.List.{append-nil, length_push}
 use Rattle.std.specs.Io.KnownBytes.{Appends, Consumes, IsAtEnd, Keeps}
 use Rattle.layer_base.specs.AddressSpace.{AddressSpace}
-use Rattle.layer_base.specs.Known.{AppendsPrefix, Writes}
-use Rattle.layer_base.proofs.Appending.{Appends-none, Appends-append, StartsWith-from, StartsWith-front, StartsWith-same, StartsWith-trans, StartsWith-behind, StartsWith-split}
-use Rattle.session.specs.Lines.{cut_lines, lines_of}
+use Rattle.layer_base.proofs.Appending.{Appends-none, Appends-append}
+use Rattle.session.specs.Lines.{cut_lines}
 use Rattle.session.specs.Script.{texts_of}
-use Rattle.session.specs.Turn.{turn_text, turn_line, rest_text}
+use Rattle.session.specs.Turn.{turn_text, turn_line}
 use Rattle.session.specs.declared.line_buffer.TheConstants.{LINE_ROOM}
-use Rattle.session.specs.declared.script.TheConstants.{MAX_SCRIPT}
-use Rattle.session.proofs.Texts.{texts-push, rest-push, texts-more}
+use Rattle.session.proofs.Texts.{texts-push, rest-push}
 
 -- so many bytes were given, the lines that they end were run, and the line that they began is kept
 pub record Underway (memory : AddressSpace) (script : List ℕ) (left out out' : Option (List ℕ)) (line : List ℕ) (count : ℕ) : Type 0 where

@@ -16,4 +16,8 @@ pub use ended::{Ended, run};
 pub use status::Status;
 
 #[cfg(test)]
+mod line_tests;
+#[cfg(test)]
+mod test_runs;
+#[cfg(test)]
 mod tests;

@@ -1,7 +1,6 @@
-use Rattle.std.proofs.Common.{◌≡◌, ℕ, ◌+◌, ◌-◌, ◌*◌, ◌<◌, ◌≤◌, ◌⊎◌, inl, inr, ⊎_elim, ◌++◌, length, take, drop, refl, sym, ◌∙◌, ap, arith, append_assoc}
+use Rattle.std.proofs.Common.{inl, ◌++◌, length, refl, sym, ◌∙◌, ap, arith, append_assoc}
 use Rattle.std.proofs.lemmas.List.{append-nil}
 use Rattle.session.proofs.Rows.{dump_text-none, dump_text-more, whole-rows, whole-rows-next}
-use Rattle.session.specs.DumpRow.{dump_text}
 use Rattle.session.proofs.dump_row.append_rows.Goals as goal
 
 pub loop-start-init : goal.loop-start-init

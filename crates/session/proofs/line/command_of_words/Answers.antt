@@ -1,4 +1,4 @@
-use Rattle.std.proofs.Common.{length, map, sym, arith}
+use Rattle.std.proofs.Common.{map, sym}
 use Rattle.std.proofs.lemmas.List.{length-map}
 use Rattle.session.proofs.Commands.{few-words}
 use Rattle.session.proofs.line.command_of_words.Goals as goal

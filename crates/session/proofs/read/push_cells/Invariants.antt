@@ -1,5 +1,5 @@
 use Rattle.std.proofs.Common.{◌≡◌, ◌-◌, ◌≤◌, length}
-use Rattle.std.specs.Prelude.{IfSome, vec_len, vec_capacity}
+use Rattle.std.specs.Prelude.{IfSome, vec_capacity}
 use Rattle.layer_base.specs.AddressSpace.{bytes_from}
 use Rattle.layer_base.specs.SameLayer.{IsSameLayer}
 use Rattle.layer_base.specs.View.{physical}

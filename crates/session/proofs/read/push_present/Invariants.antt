@@ -1,4 +1,4 @@
-use Rattle.std.proofs.Common.{◌≡◌, ◌+◌, ◌++◌, map, take, length, Some}
+use Rattle.std.proofs.Common.{◌≡◌, ◌+◌, ◌++◌, map, take, Some}
 use Rattle.std.specs.Prelude.{vec_len, vec_capacity}
 use Rattle.session.proofs.read.push_present.Given as goal
 

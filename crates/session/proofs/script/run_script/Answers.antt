@@ -1,14 +1,11 @@
-use Rattle.std.proofs.Common.{◌≡◌, ℕ, ◌+◌, ◌<◌, ◌≤◌, [], ◌∷◌, refl, subst, sym, ◌∙◌, ap, arith}
+use Rattle.std.proofs.Common.{◌≡◌, [], ◌∷◌, refl, arith}
 use Rattle.std.specs.Prelude.{IfSome}
 use Rattle.std.proofs.lemmas.Option.{IfSome_then}
 use Rattle.layer_base.specs.Known.{AppendsPrefix, Writes}
 use Rattle.layer_base.specs.View.{physical}
 use Rattle.layer_base.proofs.Layers.{IsSameLayer-trans}
 use Rattle.std.specs.Io.KnownBytes.{Appends, Consumes, IsAtEnd}
-use Rattle.session.specs.Ran.{RanOver}
 use Rattle.session.specs.Turn.{turn_text, turn_line, rest_text}
-use Rattle.session.specs.Status.{status_after}
-use Rattle.session.specs.declared.status.Status.TheVariants as status
 use Rattle.session.proofs.Ending.{script-failed, turn-failed, script-ended, script-too_long}
 use Rattle.session.proofs.Told.{IfSome-both}
 use Rattle.session.proofs.Underway.{Underway-next}
