@@ -1,19 +1,11 @@
 -- What a run that ran so far left, part by part.
-<<<<<<< HEAD
 use Rattle.std.proofs.Common.{◌≡◌, ◌⊎◌, inl, inr, ℕ, Bool, true, false, List, [], Option, None, Some, Result, Ok, Err, cond, refl, subst}
-=======
-use Rattle.std.proofs.Common.{◌≡◌, ◌⊎◌, inl, inr, ℕ, true, false, List, [], Option, None, Some, refl, subst}
->>>>>>> 1e9140a217cce4be03701cdf024b4945f98787c0
 use Rattle.std.specs.Prelude.{IfSome}
 use Rattle.std.specs.Io.KnownBytes.{Appends, Consumes}
 use Rattle.layer_base.specs.AddressSpace.{AddressSpace}
 use Rattle.layer_base.specs.Known.{AppendsPrefix}
-<<<<<<< HEAD
 use Rattle.layer_base.specs.View.{View}
 use Rattle.layer_base.specs.declared.layer.Kind.{Kind}
-=======
-use Rattle.layer_base.specs.View.{View, physical}
->>>>>>> 1e9140a217cce4be03701cdf024b4945f98787c0
 use Rattle.session.specs.Headline.{WhereTold, GavePrefix, HasWholeLines}
 use Rattle.session.specs.Ran.{RanOver, IsScriptEnd}
 use Rattle.session.specs.Run.{Outcome, refused, stack_run, run_of}
