@@ -144,7 +144,7 @@ pub fn run<J: Source, S: Source, O: Sink, D: Sink, L: Ledger>(
 
     // The layer is the image, and shows what it showed, or what the formats give where one of them was attached.
     // Under an answer it shows just what the run comes to.
-    ensures layer { KeepsOrAttaches formats.now (view image) (kind image) (view result.layer) (kind result.layer) }
+    ensures layer_view { KeepsOrAttaches formats.now (view image) (kind image) (view result.layer) (kind result.layer) }
     ensures exact_layer { IfSome (view image) (λ before.
         IsAnswer result.status → Shows (shown_of (map string_bytes words.now) formats.now before) (view result.layer) (kind result.layer)) }
     ensures layer_calls { calls image ≤ calls result.layer }

@@ -41,7 +41,7 @@ pub(crate) fn attach_formats<Y: Layer>(image: &mut Y, formats: &[Kind]) -> Resul
     for format in formats {
         match image.attach(*format, 0) {
             Ok(()) => return Ok(()),
-            Err(Why::NotThis | Why::Taken) => {}
+            Err(Why::NotThis) => {}
             Err(Why::Bad { at, rule }) => {
                 return Err(StackFault::Refused(Refusal {
                     format: *format,
@@ -51,6 +51,7 @@ pub(crate) fn attach_formats<Y: Layer>(image: &mut Y, formats: &[Kind]) -> Resul
             }
             Err(Why::Device) => return Err(StackFault::Device),
             Err(Why::Memory) => return Err(StackFault::Memory),
+            Err(Why::Taken) => unreachable!(),
         }
     }
     Ok(())
