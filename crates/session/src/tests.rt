@@ -1,177 +1,11 @@
-//! Runs over objects in memory, as tables: what goes in, and the status and the text that come out.
-ghost use Rattle.std.specs.Prelude.{◌≡◌, ◌<◌};
-
+//! Runs over the sixteen digits, as tables: what goes in, and the status and the text that come out.
+use crate::Status;
 use crate::dump_row::dump_row;
-use crate::{Status, run};
-use file_layer::FileLayer;
-use layer_base::{Layer, MemDevice, MemSink, MemSource, Source, Steps};
-use std::alloc::{AllocError, Global};
-use std::marker::Brand;
-use std::process::Abort;
-use std::sync::ledger::{Blank, Ledger};
+use crate::test_runs::{
+    FIRST, Given, ROW, TOO_LONG, UNKNOWN, USAGE, expect, expect_faults, expect_texts, filled,
+    over_digits, seen_of,
+};
 use std::test::Fail;
-
-const DIGITS: &str = "0123456789ABCDEF";
-
-const ROW: &str =
-    "0x0000000000000000  30 31 32 33 34 35 36 37 38 39 41 42 43 44 45 46  |0123456789ABCDEF|\n";
-
-const FIRST: &str = "0x0000000000000000  30  |0|\n";
-
-const USAGE: &str = "usage: memlens IMAGE SYMBOLS [DUMP] [--cache N] [--chunk N]\n";
-
-const UNKNOWN: &str = "error: unknown command\n";
-
-const TOO_LONG: &str = "error: line too long\n";
-
-/// What a run is given. Every object gives or takes at most `cut` bytes a call.
-#[derive(Clone, Copy)]
-struct Given<'a> {
-    image: &'a str,
-    script: &'a str,
-    words: &'a [&'a str],
-    image_fails: &'a [u64],
-    script_fails: &'a [u64],
-    cut: usize,
-    room: Option<u64>,
-}
-
-/// What a run left.
-#[derive(Drop)]
-struct Seen {
-    status: u8,
-    text: String,
-    dumped: usize,
-    left: usize,
-}
-
-// The script over the sixteen digits, with nothing that fails.
-fn over_digits(script: &str) -> Given<'_> {
-    Given {
-        image: DIGITS,
-        script,
-        words: &["i", "s"],
-        image_fails: &[],
-        script_fails: &[],
-        cut: 1000,
-        room: None,
-    }
-}
-
-fn strings_of(alloc: Global, words: &[&str]) -> Result<Vec<String>, AllocError> {
-    let mut strings = Vec::new(alloc);
-    for word in words {
-        strings.push(String::from_str(alloc, *word)?)?;
-    }
-    Ok(strings)
-}
-
-fn source_of(
-    alloc: Global,
-    text: &str,
-    fails: &[u64],
-    cut: usize,
-) -> Result<MemSource, AllocError> {
-    Ok(MemSource::new(
-        text.as_bytes().to_vec(alloc)?,
-        fails.to_vec(alloc)?,
-        cut.max(1),
-    ))
-}
-
-fn device_of(alloc: Global, given: &Given<'_>) -> Result<MemDevice, AllocError> {
-    Ok(MemDevice::new(
-        given.image.as_bytes().to_vec(alloc)?,
-        given.image_fails.to_vec(alloc)?,
-        given.cut.max(1),
-    ))
-}
-
-// How many bytes the source has left. None of its calls from here on fails.
-fn count_left(source: &mut MemSource) -> usize {
-    let mut buf = [0; 4096];
-    let mut left = 0usize;
-    for _ in 0..u64::MAX {
-        match source.read(&mut buf) {
-            Ok(0) | Err(_) => return left,
-            Ok(n) => left = left.saturating_add(n),
-        }
-    }
-    left
-}
-
-fn run_with<L: Ledger>(alloc: Global, given: &Given<'_>, blank: Blank) -> Result<Seen, Fail>
-    requires name { blank.name ≡ L.name }
-    requires parts { blank.parts ≡ L.parts }
-    requires some { 0 < L.parts }
-{
-    let words = strings_of(alloc, given.words)?;
-    let device = device_of(alloc, given)?;
-    let image: Box<dyn Layer> = Box::new(alloc, FileLayer::new(alloc, device))?;
-    let mut symbols = source_of(alloc, "{}", &[], given.cut)?;
-    let mut script = source_of(alloc, given.script, given.script_fails, given.cut)?;
-    let mut out = MemSink::new(alloc, given.room, given.cut.max(1));
-    let mut dump = MemSink::new(alloc, None, given.cut.max(1));
-    let mut steps = Steps::<L>::new(blank);
-    let ended = run(
-        alloc,
-        &words,
-        image,
-        &[],
-        &mut symbols,
-        &mut script,
-        &mut out,
-        &mut dump,
-        &mut steps,
-    );
-    Ok(Seen {
-        status: ended.status.number(),
-        text: String::from_str(alloc, str::from_utf8(out.bytes())?)?,
-        dumped: dump.bytes().len(),
-        left: count_left(&mut script),
-    })
-}
-
-fn seen_of(alloc: Global, given: &Given<'_>) -> Result<Seen, Fail> {
-    run_with::<Brand>(alloc, given, Blank::new(1))
-}
-
-// Runs, and asserts the status, the text and how many bytes of the script are left. Nothing is ever dumped.
-fn expect(
-    rt: &impl Abort,
-    alloc: Global,
-    given: &Given<'_>,
-    (status, text, left): (u8, &str, usize),
-    name: &str,
-) -> Result<(), Fail> {
-    let seen = seen_of(alloc, given)?;
-    assert_eq!(rt; seen.text.as_str(), text, "the text of {name}");
-    assert_eq!(rt; seen.status, status, "the status of {name}");
-    assert_eq!(rt; seen.left, left, "what is left by {name}");
-    assert_eq!(rt; seen.dumped, 0, "what is dumped by {name}");
-    Ok(())
-}
-
-// Whole scripts over the sixteen digits, each with its text.
-fn expect_texts(rt: &impl Abort, alloc: Global, rows: &[(&str, &str)]) -> Result<(), Fail> {
-    for (script, text) in rows {
-        expect(rt, alloc, &over_digits(script), (0, text, 0), script)?;
-    }
-    Ok(())
-}
-
-// A byte so many times, between two texts.
-fn filled(
-    alloc: Global,
-    start: &str,
-    (byte, count): (u8, usize),
-    end: &str,
-) -> Result<String, Fail> {
-    let mut text = String::from_str(alloc, start)?;
-    text.push_str(String::from_utf8(vec![in alloc; byte; count]?)?.as_str())?;
-    text.push_str(end)?;
-    Ok(text)
-}
 
 #[test]
 fn ends(rt: HostRuntime) -> Result<(), Fail> {
@@ -183,7 +17,7 @@ fn ends(rt: HostRuntime) -> Result<(), Fail> {
         (
             "an empty image",
             Given {
-                image: "",
+                image: &[],
                 ..over_digits("read phys 0 1\n")
             },
             0,
@@ -313,7 +147,7 @@ fn ends(rt: HostRuntime) -> Result<(), Fail> {
             },
             5,
             "",
-            0,
+            15,
         ),
     ] {
         expect(&rt, rt.alloc(), &given, (status, text, left), name)?;
@@ -371,187 +205,6 @@ fn reads_much(rt: HostRuntime) -> Result<(), Fail> {
     assert_eq!(rt; seen.status, 0);
     assert_eq!(rt; seen.text.len(), 5_767_168);
     assert!(rt; seen.text.as_str().starts_with("0xfffffffffff00000  -- "));
-    Ok(())
-}
-
-#[test]
-fn numbers(rt: HostRuntime) -> Result<(), Fail> {
-    let ten = "0x000000000000000a  41  |A|\n";
-    let seven = "0x0000000000000007  37  |7|\n";
-    let greatest = "0xffffffffffffffff  --  | |\n";
-    expect_texts(
-        &rt,
-        rt.alloc(),
-        &[
-            ("read phys 10 1", ten),
-            ("read phys 0xa 0x1", ten),
-            ("read phys 0xA 0x0001", ten),
-            ("read phys 0x00000000000000000000000A 1", ten),
-            ("read phys 007 01", seven),
-            ("read phys 00000000000000000000000000007 1", seven),
-            ("read phys 0x0 1", FIRST),
-            ("read phys 00 1", FIRST),
-            ("read phys 0xdeadBEEF 1", "0x00000000deadbeef  --  | |\n"),
-            (
-                "read phys 0xAbCdEf0123456789 1",
-                "0xabcdef0123456789  --  | |\n",
-            ),
-            ("read phys 18446744073709551615 1", greatest),
-            ("read phys 0018446744073709551615 1", greatest),
-            ("read phys 0xFFFFffffFFFFffff 1", greatest),
-            ("read phys 18446744073709551616 1", UNKNOWN),
-            ("read phys 99999999999999999999 1", UNKNOWN),
-            ("read phys 0x10000000000000000 1", UNKNOWN),
-            ("read phys 0 0x100001", UNKNOWN),
-            ("read phys 0x 1", UNKNOWN),
-            ("read phys 0 0x", UNKNOWN),
-            ("read phys 0X1 1", UNKNOWN),
-            ("read phys x1 1", UNKNOWN),
-            ("read phys 0xg 1", UNKNOWN),
-            ("read phys 0x0x1 1", UNKNOWN),
-            ("read phys a 1", UNKNOWN),
-            ("read phys 1a 1", UNKNOWN),
-            ("read phys +1 1", UNKNOWN),
-            ("read phys -1 1", UNKNOWN),
-            ("read phys 0 -1", UNKNOWN),
-            ("read phys 1_0 1", UNKNOWN),
-            ("read phys 1: 1", UNKNOWN),
-            ("read phys /1 1", UNKNOWN),
-            ("read phys 0x` 1", UNKNOWN),
-            ("read phys 0x@ 1", UNKNOWN),
-            ("read phys 0xG 1", UNKNOWN),
-        ],
-    )
-}
-
-#[test]
-fn lines(rt: HostRuntime) -> Result<(), Fail> {
-    expect_texts(
-        &rt,
-        rt.alloc(),
-        &[
-            ("\n", ""),
-            ("\n\n \t \n\t\n", ""),
-            ("\r\n", ""),
-            ("\r", ""),
-            (" \t\r\n", ""),
-            ("\r\r\n", UNKNOWN),
-            ("read phys 0 1\r\n", FIRST),
-            ("read phys 0 1\r", FIRST),
-            ("read phys 0 1 \r\n", FIRST),
-            ("read phys 0 1\r\r\n", UNKNOWN),
-            ("read phys 0 1\r \n", UNKNOWN),
-            ("read\tphys\t0\t1\n", FIRST),
-            (" \tread \t phys  0\t\t1\t \n", FIRST),
-            ("\n\nread phys 0 1\n\n", FIRST),
-            ("# note\n", UNKNOWN),
-            ("#\n", UNKNOWN),
-            ("quit\n", UNKNOWN),
-            ("read\n", UNKNOWN),
-            ("read phys\n", UNKNOWN),
-            ("read phys 0\n", UNKNOWN),
-            ("read phys 0 1 2\n", UNKNOWN),
-            ("READ phys 0 1\n", UNKNOWN),
-            ("read Phys 0 1\n", UNKNOWN),
-            ("reads phys 0 1\n", UNKNOWN),
-            ("read phy 0 1\n", UNKNOWN),
-            ("readphys 0 1\n", UNKNOWN),
-            ("phys read 0 1\n", UNKNOWN),
-            ("read kernel 0 1\n", UNKNOWN),
-            ("read phys @x 1\n", UNKNOWN),
-            ("read phys 0 1\0\n", UNKNOWN),
-            ("read\u{b}phys 0 1\n", UNKNOWN),
-            (
-                "quit\nread phys 0 1",
-                "error: unknown command\n0x0000000000000000  30  |0|\n",
-            ),
-            (
-                "read phys 15 1\n\nfrob\r\nread phys 0 1",
-                "0x000000000000000f  46  |F|\nerror: unknown command\n0x0000000000000000  30  |0|\n",
-            ),
-        ],
-    )
-}
-
-#[test]
-fn long_lines(rt: HostRuntime) -> Result<(), Fail> {
-    let alloc = rt.alloc();
-    for (name, start, fill, end, want) in [
-        ("4,096 blanks", "", (b' ', 4096), "\n", ""),
-        ("4,096 blanks, no newline", "", (b' ', 4096), "", ""),
-        ("4,097 blanks", "", (b' ', 4097), "\n", TOO_LONG),
-        ("4,097 blanks, no newline", "", (b' ', 4097), "", TOO_LONG),
-        ("4,095 tabs and a return", "", (b'\t', 4095), "\r\n", ""),
-        (
-            "4,096 tabs and a return",
-            "",
-            (b'\t', 4096),
-            "\r\n",
-            TOO_LONG,
-        ),
-        ("4,096 letters", "", (b'x', 4096), "\n", UNKNOWN),
-        ("4,097 letters", "", (b'x', 4097), "\n", TOO_LONG),
-        ("a comment of 4,096", "#", (b' ', 4095), "\n", UNKNOWN),
-        ("a comment of 4,097", "#", (b' ', 4096), "\n", TOO_LONG),
-        (
-            "a read of 4,096",
-            "read phys 0 1",
-            (b' ', 4083),
-            "\n",
-            FIRST,
-        ),
-        (
-            "a read of 4,097",
-            "read phys 0 1",
-            (b' ', 4084),
-            "\n",
-            TOO_LONG,
-        ),
-        (
-            "a read behind 4,083 blanks",
-            "",
-            (b' ', 4083),
-            "read phys 0 1",
-            FIRST,
-        ),
-        (
-            "a read behind 4,084 blanks",
-            "",
-            (b' ', 4084),
-            "read phys 0 1",
-            TOO_LONG,
-        ),
-        (
-            "a read behind 4,500 blanks",
-            "",
-            (b' ', 4500),
-            "read phys 0 1",
-            TOO_LONG,
-        ),
-        (
-            "a read of many digits",
-            "read phys ",
-            (b'0', 4084),
-            " 1\n",
-            FIRST,
-        ),
-        (
-            "a read after 10,000 letters",
-            "",
-            (b'x', 10_000),
-            "\nread phys 0 1",
-            "error: line too long\n0x0000000000000000  30  |0|\n",
-        ),
-    ] {
-        let script = filled(alloc, start, fill, end)?;
-        expect(
-            &rt,
-            alloc,
-            &over_digits(script.as_str()),
-            (0, want, 0),
-            name,
-        )?;
-    }
     Ok(())
 }
 
@@ -725,32 +378,52 @@ fn failing_scripts(rt: HostRuntime) -> Result<(), Fail> {
 #[test]
 fn failing_images(rt: HostRuntime) -> Result<(), Fail> {
     let reads = "read phys 0 16\nread phys 8 17\n";
-    let whole = seen_of(rt.alloc(), &over_digits(reads))?;
-    assert!(rt; whole.text.as_str().starts_with(ROW));
-    // Each byte costs a call, and each hole one.
-    for call in 0..40 {
-        let fails = [call];
+    let text = [
+        ROW,
+        "0x0000000000000008  38 39 41 42 43 44 45 46 -- -- -- -- -- -- -- --  |89ABCDEF        |\n",
+        "0x0000000000000018  --  | |\n",
+    ]
+    .concat(rt.alloc())?;
+    for (cut, least) in [(1, 24), (7, 5), (1000, 2)] {
         let given = Given {
-            image_fails: &fails,
-            cut: 1,
+            cut,
             ..over_digits(reads)
         };
-        let seen = seen_of(rt.alloc(), &given)?;
-        assert!(rt;
-            whole.text.as_str().starts_with(seen.text.as_str()),
-            "at {call}"
-        );
-        assert!(rt;
-            call < 16 || seen.text.as_str().starts_with(ROW),
-            "at {call}"
-        );
-        if call < 24 {
-            assert_eq!(rt; seen.status, 5, "at {call}");
-        } else if seen.status != 5 {
-            assert_eq!(rt; seen.status, 0, "at {call}");
-            assert_eq!(rt; seen.text.len(), whole.text.len(), "at {call}");
-        }
+        let calls = expect_faults(&rt, rt.alloc(), &given, (0, text.as_str()), "two reads")?;
+        // each byte that is read costs its part of a call
+        assert!(rt; least <= calls, "by {cut}");
     }
+    Ok(())
+}
+
+// A long read is written piece by piece: where its last piece fails, the rows of the first are there.
+#[test]
+fn pieces(rt: HostRuntime) -> Result<(), Fail> {
+    let image = filled(rt.alloc(), "", (b'0', 12_288), "")?;
+    let given = Given {
+        image: image.as_bytes(),
+        ..over_digits("read phys 0 12288\n")
+    };
+    let mut whole = String::new(rt.alloc());
+    for row in 0..768 {
+        let at = 16 * row;
+        whole.push_str(format!(in rt.alloc(); "0x{at:016x}")?.as_str())?;
+        whole.push_str("  30 30 30 30 30 30 30 30 30 30 30 30 30 30 30 30  |0000000000000000|\n")?;
+    }
+    let text = whole.as_str();
+    let calls = expect_faults(&rt, rt.alloc(), &given, (0, text), "three pieces")?;
+    let image_fails = &[calls.saturating_sub(1)];
+    let seen = seen_of(
+        rt.alloc(),
+        &Given {
+            image_fails,
+            ..given
+        },
+    )?;
+    assert_eq!(rt; seen.status, 5);
+    assert!(rt; text.starts_with(seen.text.as_str()));
+    assert_eq!(rt; seen.text.len() % 88, 0, "whole rows");
+    assert!(rt; seen.text.len() >= 22_528, "the rows of the first piece");
     Ok(())
 }
 
