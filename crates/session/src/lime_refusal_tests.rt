@@ -163,8 +163,9 @@ fn refused_ends(rt: HostRuntime) -> Result<(), Fail> {
     let alloc = rt.alloc();
     let image = image_of(alloc, TWO, &[(36, 0)], ALL)?;
     let given = over(&image, READ);
-    let line = refusal(alloc, "0x0000000000000024 magic")?;
-    let text = line.as_str();
+    let line = "image refused: lime 0x0000000000000024 magic";
+    let text = refusal(alloc, "0x0000000000000024 magic")?;
+    let text = text.as_str();
     for (name, given, status, text) in [
         (
             "room for all",
@@ -182,7 +183,7 @@ fn refused_ends(rt: HostRuntime) -> Result<(), Fail> {
                 ..given
             },
             8,
-            &text[..44],
+            line,
         ),
         (
             "room for 3",
@@ -226,7 +227,7 @@ fn refused_ends(rt: HostRuntime) -> Result<(), Fail> {
     Ok(())
 }
 
-// 65,536 ranges of one byte, at the even addresses.
+// 65,536 ranges of one byte, at the even addresses: 0x210000 bytes.
 fn many_ranges(alloc: Global) -> Result<Vec<u8>, AllocError> {
     let mut image = Vec::new(alloc);
     for number in 0..65_536u64 {
@@ -235,96 +236,73 @@ fn many_ranges(alloc: Global) -> Result<Vec<u8>, AllocError> {
     Ok(image)
 }
 
+// A run over many ranges, in which the objects give and take much and then little.
+fn expect_of_many(
+    rt: &impl Abort,
+    alloc: Global,
+    (image, script): (&[u8], &str),
+    want: (u8, &str, usize),
+    name: &str,
+) -> Result<(), Fail> {
+    let given = over(image, script);
+    expect(rt, alloc, &given, want, name)?;
+    expect(rt, alloc, &Given { cut: 7, ..given }, want, name)
+}
+
 #[test]
 fn most_ranges(rt: HostRuntime) -> Result<(), Fail> {
     let alloc = rt.alloc();
     let mut image = many_ranges(alloc)?;
     assert_eq!(rt; image.len(), 0x210000);
     let reads = "read phys 0 3\nread phys 0x1fffd 3\n";
-    let first = "0x0000000000000000  78 -- 78  |x x|\n";
-    let all = [first, "0x000000000001fffd  -- 78 --  | x |\n"].concat(alloc)?;
-    expect(
-        &rt,
-        alloc,
-        &over(&image, reads),
-        (0, all.as_str(), 0),
-        "65,536 ranges",
-    )?;
+    let all = "0x0000000000000000  78 -- 78  |x x|\n0x000000000001fffd  -- 78 --  | x |\n";
+    let but_one = "0x0000000000000000  78 -- 78  |x x|\n0x000000000001fffd  -- -- --  |   |\n";
+    expect_of_many(&rt, alloc, (&image, reads), (0, all, 0), "65,536 ranges")?;
     let given = Given {
         cut: 1,
         ..over(&image, reads)
     };
-    expect(
-        &rt,
-        alloc,
-        &given,
-        (0, all.as_str(), 0),
-        "65,536 ranges, by 1",
-    )?;
-    // each header takes a call at least, so this one comes before the last was read
+    expect(&rt, alloc, &given, (0, all, 0), "65,536 ranges, by 1")?;
+    // each header takes a call at least, so this call comes before the last was read
     let given = Given {
         image_fails: &[65_535],
         ..over(&image, READ)
     };
-    expect(
+    expect(&rt, alloc, &given, (5, "", 14), "a failing header")?;
+    image.truncate(0x20ffff);
+    expect_of_many(
         &rt,
         alloc,
-        &given,
-        (5, "", 14),
-        "the call of the last header fails",
+        (&image, reads),
+        (0, but_one, 0),
+        "the last range cut",
     )?;
-    let but_one = [first, "0x000000000001fffd  -- -- --  |   |\n"].concat(alloc)?;
-    let cut = over(&image[..0x20ffff], reads);
-    expect(
+    image.truncate(0x20fffe);
+    let cut = refusal(alloc, "0x000000000020ffdf cut")?;
+    expect_of_many(
         &rt,
         alloc,
-        &cut,
-        (0, but_one.as_str(), 0),
-        "65,536 ranges, the last cut",
-    )?;
-    let why = refusal(alloc, "0x000000000020ffdf cut")?;
-    let cut = over(&image[..0x20fffe], READ);
-    expect(
-        &rt,
-        alloc,
-        &cut,
-        (3, why.as_str(), 14),
-        "65,535 ranges and a cut header",
-    )?;
-    Ok(())
+        (&image, READ),
+        (3, cut.as_str(), 14),
+        "the last header cut",
+    )
 }
 
 #[test]
 fn too_many_ranges(rt: HostRuntime) -> Result<(), Fail> {
     let alloc = rt.alloc();
-    let mut image = many_ranges(alloc)?;
     let why = refusal(alloc, "0x0000000000210000 many")?;
+    let want = (3, why.as_str(), 14);
+    let mut image = many_ranges(alloc)?;
     add_range(&mut image, (0x20000, 0x20000, "x"))?;
-    // one range more, and what else is wrong with it
-    let whole = over(&image, READ);
-    expect(&rt, alloc, &whole, (3, why.as_str(), 14), "one range more")?;
-    let given = Given { cut: 7, ..whole };
-    expect(
-        &rt,
-        alloc,
-        &given,
-        (3, why.as_str(), 14),
-        "one range more, by 7",
-    )?;
-    let byte = over(&image[..0x210001], READ);
-    expect(&rt, alloc, &byte, (3, why.as_str(), 14), "one byte more")?;
+    expect_of_many(&rt, alloc, (&image, READ), want, "one range more")?;
+    // what else is wrong with it does not count
+    image.truncate(0x210001);
+    expect_of_many(&rt, alloc, (&image, READ), want, "one byte more")?;
     image.truncate(0x210000);
     add_range(&mut image, (0, 0, "x"))?;
-    let low = over(&image, READ);
-    expect(
-        &rt,
-        alloc,
-        &low,
-        (3, why.as_str(), 14),
-        "one range more that is too low",
-    )?;
+    expect_of_many(&rt, alloc, (&image, READ), want, "a range below")?;
     image.truncate(0x210000);
     image.extend_from_slice(&[0; 32])?;
-    let zeros = over(&image, READ);
-    expect(&rt, alloc, &zeros, (3, why.as_str(), 14), "32 zeros more")
+    expect_of_many(&rt, alloc, (&image, READ), want, "32 zeros more")
 }

@@ -86,14 +86,15 @@ fn device_of(alloc: Global, given: &Given<'_>) -> Result<MemDevice, AllocError> 
     ))
 }
 
-// How many bytes the source has left. None of its calls from here on fails.
+// How many bytes the source has left. A call of it that fails takes none.
 fn count_left(source: &mut MemSource) -> usize {
     let mut buf = [0; 4096];
     let mut left = 0usize;
     for _ in 0..u64::MAX {
         match source.read(&mut buf) {
-            Ok(0) | Err(_) => return left,
+            Ok(0) => return left,
             Ok(n) => left = left.saturating_add(n),
+            Err(_) => {}
         }
     }
     left
