@@ -1,5 +1,5 @@
 pub mod Projections
-pub mod WordsRefused
+pub mod Refusals
 pub mod Ending
 pub mod Whole
 pub mod Underway

@@ -3,15 +3,15 @@ use Rattle.std.specs.Prelude.{◌≡◌, ℕ, ◌-◌, List, ◌++◌, length, t
 use Rattle.std.specs.Io.{StartsWith}
 use Rattle.std.specs.Io.KnownBytes.{Appends, Consumes}
 use Rattle.layer_base.specs.AddressSpace.{AddressSpace}
-use Rattle.layer_base.specs.View.{View, physical}
+use Rattle.layer_base.specs.View.{View}
 use Rattle.session.specs.Lines.{cut_lines, lines_of}
 use Rattle.session.specs.Script.{texts_of}
 use Rattle.session.specs.declared.status.Status.{Status}
 use Rattle.session.specs.declared.status.Status.TheVariants.{ScriptFault}
 
--- a fact over the memory of the image, the symbol file's bytes and the script's, where all three are told
-abbrev pub WhereTold : Option View → Option (List ℕ) → Option (List ℕ) → (AddressSpace → List ℕ → List ℕ → Type 0) → Type 0
-WhereTold image symbols script P = IfSome image (λ view. IfSome symbols (λ symbols. IfSome script (λ script. P (physical view) symbols script)))
+-- a fact over what the image shows, the symbol file's bytes and the script's, where all three are told
+abbrev pub WhereTold : Option View → Option (List ℕ) → Option (List ℕ) → (View → List ℕ → List ℕ → Type 0) → Type 0
+WhereTold image symbols script P = IfSome image (λ view. IfSome symbols (λ symbols. IfSome script (λ script. P view symbols script)))
 
 -- a source gave a prefix of these bytes
 abbrev pub GavePrefix : Option (List ℕ) → Option (List ℕ) → List ℕ → Type 0

@@ -7,6 +7,7 @@ pub mod Ran
 pub mod Read
 pub mod Run
 pub mod Script
+pub mod Stack
 pub mod Status
 pub mod Turn
 pub mod Words

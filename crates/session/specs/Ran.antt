@@ -15,6 +15,7 @@ use Rattle.session.specs.declared.status.Status.TheVariants as status
 abbrev pub IsScriptEnd : Status → Type 0
 IsScriptEnd status.Ok = Unit {0}
 IsScriptEnd status.Usage = Unit {0}
+IsScriptEnd status.ImageRefused = Unit {0}
 IsScriptEnd status.ImageFault = Unit {0}
 IsScriptEnd status.ScriptFault = Unit {0}
 IsScriptEnd status.OutFault = Unit {0}

@@ -1,8 +1,12 @@
 -- What a run comes to.
-use Rattle.std.specs.Prelude.{ℕ, if◌then◌else◌, List, [], codes}
+use Rattle.std.specs.Prelude.{ℕ, if◌then◌else◌, List, [], codes, Result, Ok, Err}
 use Rattle.layer_base.specs.AddressSpace.{AddressSpace}
+use Rattle.layer_base.specs.View.{View, physical}
+use Rattle.layer_base.specs.declared.layer.Kind.{Kind}
 use Rattle.session.specs.Script.{is_short, script_text, script_taken}
+use Rattle.session.specs.Stack.{Shown, as_file, stack_of, attached, refusal_text}
 use Rattle.session.specs.Words.{are_accepted}
+use Rattle.session.specs.declared.stack.Refusal.{Refusal}
 use Rattle.session.specs.declared.status.Status.{Status}
 use Rattle.session.specs.declared.status.Status.TheVariants as status
 
@@ -32,7 +36,26 @@ script_run memory script = record {
   script_taken = script_taken script;
 }
 
--- Words that aren't accepted are refused, and nothing is taken. Else the script is run over the memory. The symbol
--- file isn't read.
-unfoldable pub run_of : List (List ℕ) → AddressSpace → List ℕ → List ℕ → Outcome
-run_of words memory symbols script = if are_accepted words then script_run memory script else refused
+-- nothing is taken of the symbol file and of the script
+abbrev pub image_refused : Refusal → Outcome
+image_refused refusal = record {
+  status = status.ImageRefused;
+  text = refusal_text refusal;
+  dumped = [];
+  symbols_taken = [];
+  script_taken = [];
+}
+
+-- the script is run over the memory of what the image shows
+abbrev pub stack_run : Result Shown Refusal → List ℕ → Outcome
+stack_run (Ok shown) script = script_run (physical shown.view) script
+stack_run (Err refusal) script = image_refused refusal
+
+-- Words that aren't accepted are refused, and nothing is taken. Else the formats are tried on the image, and the
+-- script is run over what it shows then. The symbol file isn't read.
+unfoldable pub run_of : List (List ℕ) → List Kind → View → List ℕ → List ℕ → Outcome
+run_of words formats view symbols script = if are_accepted words then stack_run (stack_of formats view) script else refused
+
+-- what the image shows after such a run
+abbrev pub shown_of : List (List ℕ) → List Kind → View → Shown
+shown_of words formats view = if are_accepted words then attached formats view else as_file view

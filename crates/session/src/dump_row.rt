@@ -1,7 +1,7 @@
 //! The rows of a dump: an address, sixteen bytes in hexadecimal, and the bytes as characters.
 ghost use Rattle.std.specs.Prelude.{◌≡◌, ◌+◌, ◌^◌, ◌<◌, ◌≤◌, ◌∷◌, [], ◌++◌, map, length, codes, OnOk, IfOk};
 ghost use Rattle.std.specs.List.{flat_map};
-ghost use Rattle.session.specs.DumpRow.{hex_digit, hex_digits, byte_cell, character, dump_row, dump_text};
+ghost use Rattle.session.specs.DumpRow.{hex_digit, hex_digits, address_cell, byte_cell, character, dump_row, dump_text};
 
 use layer_base::Name;
 use std::alloc::{AllocError, Global};
@@ -29,6 +29,14 @@ fn append_hex(text: &mut Vec<u8>, digits: u32, value: u64) -> Result<(), AllocEr
     Ok(())
 }
 
+/// Appends an address: `0x` and sixteen digits.
+pub(crate) fn append_address(text: &mut Vec<u8>, at: u64) -> Result<(), AllocError>
+    ensures { OnOk result (text.new.items ≡ text.old.items ++ address_cell at) }
+{
+    text.extend_from_slice(b"0x")?;
+    append_hex(text, 16, at)
+}
+
 fn append_cell(text: &mut Vec<u8>, cell: Option<u8>) -> Result<(), AllocError>
     ensures { OnOk result (text.new.items ≡ text.old.items ++ byte_cell cell) }
 {
@@ -52,8 +60,7 @@ fn character(cell: Option<u8>) -> u8
 fn append_row(text: &mut Vec<u8>, at: u64, cells: &[Option<u8>]) -> Result<(), AllocError>
     ensures { OnOk result (text.new.items ≡ text.old.items ++ dump_row at cells.now) }
 {
-    text.extend_from_slice(b"0x")?;
-    append_hex(text, 16, at)?;
+    append_address(text, at)?;
     text.push(b' ')?;
     append_cells(text, cells)?;
     text.extend_from_slice(b"  |")?;

@@ -1,19 +1,20 @@
 //! The top call: a run of a script over an image.
-ghost use Rattle.std.specs.Prelude.{◌≡◌, ℕ, ◌≤◌, ◌⊎◌, List, [], map, string_bytes, IfSome};
+ghost use Rattle.std.specs.Prelude.{◌≡◌, ℕ, ◌≤◌, ◌⊎◌, List, map, string_bytes, IfSome};
 ghost use Rattle.std.specs.Io.KnownBytes.{Appends, Consumes};
 ghost use Rattle.layer_base.specs.Counts.{HasCause};
 ghost use Rattle.layer_base.specs.Known.{AppendsPrefix};
-ghost use Rattle.layer_base.specs.SameLayer.{IsSameLayer};
 ghost use Rattle.layer_base.specs.View.{physical};
 ghost use Rattle.session.specs.Causes.{NothingFailed};
 ghost use Rattle.session.specs.Headline.{WhereTold, GavePrefix, HasWholeLines};
 ghost use Rattle.session.specs.Ran.{IsScriptEnd, RanOver};
-ghost use Rattle.session.specs.Run.{run_of};
+ghost use Rattle.session.specs.Run.{run_of, stack_run, shown_of};
+ghost use Rattle.session.specs.Stack.{stack_of, attached, attached_view, KeepsOrAttaches, Shows};
 ghost use Rattle.session.specs.Status.{IsAnswer};
 
 use crate::Status;
 use crate::command::write_text;
 use crate::script::run_script;
+use crate::stack::{StackFault, attach_formats, write_refusal};
 use crate::status::status_after;
 use crate::words::are_accepted;
 use layer_base::{Kind, Layer, Sink, Source, Steps};
@@ -29,18 +30,51 @@ pub struct Ended {
 
 const USAGE: &[u8] = b"usage: memlens IMAGE SYMBOLS [DUMP] [--cache N] [--chunk N]\n";
 
+// Tries the formats on the image, and runs the script over what it shows then.
+fn run_image<Y: Layer, S: Source, O: Sink>(
+    alloc: Global,
+    image: &mut Y,
+    formats: &[Kind],
+    script: &mut S,
+    out: &mut O,
+) -> Status
+    requires file { Y.kind image.old ≡ Kind.File }
+    ensures ran { IfSome (Y.view image.old) (λ before. IfSome (S.left script.old) (λ bytes.
+        RanOver (physical (attached_view formats.now before)) (stack_run (stack_of formats.now before) bytes) bytes (S.left script.new) (O.written out.old) (O.written out.new) result)) }
+    ensures end { IsScriptEnd result }
+    ensures layer { KeepsOrAttaches formats.now (Y.view image.old) (Y.kind image.old) (Y.view image.new) (Y.kind image.new) }
+    ensures shows { IfSome (Y.view image.old) (λ before. IsAnswer result → Shows (attached formats.now before) (Y.view image.new) (Y.kind image.new)) }
+    ensures calls { Y.calls image.old ≤ Y.calls image.new }
+    ensures image { HasCause (Y.faults image.old) (Y.faults image.new) (result ≡ Status.ImageFault) }
+    ensures script { HasCause (S.faults script.old) (S.faults script.new) (result ≡ Status.ScriptFault) }
+    ensures out { HasCause (O.faults out.old) (O.faults out.new) (result ≡ Status.OutFault) }
+{
+    match attach_formats(image, formats) {
+        Ok(()) => run_script(alloc, image, script, out),
+        Err(StackFault::Refused(refusal)) => {
+            status_after(Status::ImageRefused, write_refusal(alloc, refusal, out))
+        }
+        Err(StackFault::Device) => Status::ImageFault,
+        Err(StackFault::Memory) => Status::Memory,
+    }
+}
+
 // A run over a layer that needn't be boxed.
 fn run_over<Y: Layer, S: Source, O: Sink>(
     alloc: Global,
     words: &[String],
     image: Y,
+    formats: &[Kind],
     script: &mut S,
     out: &mut O,
 ) -> (Status, Y)
-    ensures ran { IfSome (Y.view image) (λ view. IfSome (S.left script.old) (λ bytes. (symbols : List ℕ) →
-        RanOver (physical view) (run_of (map string_bytes words.now) (physical view) symbols bytes) bytes (S.left script.new) (O.written out.old) (O.written out.new) result.0)) }
+    requires file { Y.kind image ≡ Kind.File }
+    ensures ran { IfSome (Y.view image) (λ before. IfSome (S.left script.old) (λ bytes. (symbols : List ℕ) →
+        RanOver (physical (attached_view formats.now before)) (run_of (map string_bytes words.now) formats.now before symbols bytes) bytes (S.left script.new) (O.written out.old) (O.written out.new) result.0)) }
     ensures end { IsScriptEnd result.0 }
-    ensures layer { IsSameLayer Y.view Y.kind Y.faults Y.calls image result.1 }
+    ensures layer { KeepsOrAttaches formats.now (Y.view image) (Y.kind image) (Y.view result.1) (Y.kind result.1) }
+    ensures shows { IfSome (Y.view image) (λ before. IsAnswer result.0 → Shows (shown_of (map string_bytes words.now) formats.now before) (Y.view result.1) (Y.kind result.1)) }
+    ensures calls { Y.calls image ≤ Y.calls result.1 }
     ensures image { HasCause (Y.faults image) (Y.faults result.1) (result.0 ≡ Status.ImageFault) }
     ensures script { HasCause (S.faults script.old) (S.faults script.new) (result.0 ≡ Status.ScriptFault) }
     ensures out { HasCause (O.faults out.old) (O.faults out.new) (result.0 ≡ Status.OutFault) }
@@ -49,15 +83,16 @@ fn run_over<Y: Layer, S: Source, O: Sink>(
     if !are_accepted(words) {
         return (status_after(Status::Usage, write_text(out, USAGE)), image);
     }
-    let status = run_script(alloc, &mut image, script, out);
+    let status = run_image(alloc, &mut image, formats, script, out);
     (status, image)
 }
 
 /// Runs a script over an image, and writes what its lines print.
 ///
-/// The words are those of the command line. No format is tried on the image yet, the symbol file is not read, and
-/// nothing is dumped. The script is taken one byte at a time, and a line is run before the next is read. A refusal
-/// of the words, or of a script that is too long, is a line of the text.
+/// The words are those of the command line. Where they are accepted, the formats are tried on the image in their
+/// order, and the first that it is of is attached; an image of none of them is read as it is. The symbol file is not
+/// read, and nothing is dumped. The script is taken one byte at a time, and a line is run before the next is read. A
+/// refusal of the words, of the image, or of a script that is too long, is a line of the text.
 ///
 /// The clauses on content hold where the image, the symbol file and the script tell what they hold, and those on a
 /// sink where it tells what was written. When `Memory` comes is left open.
@@ -73,33 +108,32 @@ pub fn run<J: Source, S: Source, O: Sink, D: Sink, L: Ledger>(
     steps: &mut Steps<L>,
 ) -> Ended
     requires file { kind image ≡ Kind.File }
-    requires raw { formats.now ≡ [] }
 
     // However it ends, what was written, dumped and taken is a front of what the run comes to.
-    ensures text { WhereTold (view image) (J.left symbols.old) (S.left script.old) (λ memory j s.
-        AppendsPrefix (O.written out.old) (O.written out.new) (run_of (map string_bytes words.now) memory j s).text) }
-    ensures dumped { WhereTold (view image) (J.left symbols.old) (S.left script.old) (λ memory j s.
-        AppendsPrefix (D.written dump.old) (D.written dump.new) (run_of (map string_bytes words.now) memory j s).dumped) }
-    ensures symbols_given { WhereTold (view image) (J.left symbols.old) (S.left script.old) (λ memory j s.
-        GavePrefix (J.left symbols.old) (J.left symbols.new) (run_of (map string_bytes words.now) memory j s).symbols_taken) }
-    ensures script_given { WhereTold (view image) (J.left symbols.old) (S.left script.old) (λ memory j s.
-        GavePrefix (S.left script.old) (S.left script.new) (run_of (map string_bytes words.now) memory j s).script_taken) }
+    ensures text { WhereTold (view image) (J.left symbols.old) (S.left script.old) (λ before j s.
+        AppendsPrefix (O.written out.old) (O.written out.new) (run_of (map string_bytes words.now) formats.now before j s).text) }
+    ensures dumped { WhereTold (view image) (J.left symbols.old) (S.left script.old) (λ before j s.
+        AppendsPrefix (D.written dump.old) (D.written dump.new) (run_of (map string_bytes words.now) formats.now before j s).dumped) }
+    ensures symbols_given { WhereTold (view image) (J.left symbols.old) (S.left script.old) (λ before j s.
+        GavePrefix (J.left symbols.old) (J.left symbols.new) (run_of (map string_bytes words.now) formats.now before j s).symbols_taken) }
+    ensures script_given { WhereTold (view image) (J.left symbols.old) (S.left script.old) (λ before j s.
+        GavePrefix (S.left script.old) (S.left script.new) (run_of (map string_bytes words.now) formats.now before j s).script_taken) }
 
     // Every line that was read, but for the last, has its whole text in what was written.
-    ensures whole_lines { WhereTold (view image) (J.left symbols.old) (S.left script.old) (λ memory j s.
-        HasWholeLines memory (S.left script.old) (S.left script.new) (O.written out.old) (O.written out.new) result.status) }
+    ensures whole_lines { WhereTold (view image) (J.left symbols.old) (S.left script.old) (λ before j s.
+        HasWholeLines (physical (attached_view formats.now before)) (S.left script.old) (S.left script.new) (O.written out.old) (O.written out.new) result.status) }
 
     // A status that is no fault and no want of memory is the one that the run comes to, and all was written and taken.
-    ensures exact_status { WhereTold (view image) (J.left symbols.old) (S.left script.old) (λ memory j s.
-        IsAnswer result.status → result.status ≡ (run_of (map string_bytes words.now) memory j s).status) }
-    ensures exact_text { WhereTold (view image) (J.left symbols.old) (S.left script.old) (λ memory j s.
-        IsAnswer result.status → Appends (O.written out.old) (O.written out.new) (run_of (map string_bytes words.now) memory j s).text) }
-    ensures exact_dumped { WhereTold (view image) (J.left symbols.old) (S.left script.old) (λ memory j s.
-        IsAnswer result.status → Appends (D.written dump.old) (D.written dump.new) (run_of (map string_bytes words.now) memory j s).dumped) }
-    ensures exact_symbols { WhereTold (view image) (J.left symbols.old) (S.left script.old) (λ memory j s.
-        IsAnswer result.status → Consumes (J.left symbols.old) (J.left symbols.new) (run_of (map string_bytes words.now) memory j s).symbols_taken) }
-    ensures exact_script { WhereTold (view image) (J.left symbols.old) (S.left script.old) (λ memory j s.
-        IsAnswer result.status → Consumes (S.left script.old) (S.left script.new) (run_of (map string_bytes words.now) memory j s).script_taken) }
+    ensures exact_status { WhereTold (view image) (J.left symbols.old) (S.left script.old) (λ before j s.
+        IsAnswer result.status → result.status ≡ (run_of (map string_bytes words.now) formats.now before j s).status) }
+    ensures exact_text { WhereTold (view image) (J.left symbols.old) (S.left script.old) (λ before j s.
+        IsAnswer result.status → Appends (O.written out.old) (O.written out.new) (run_of (map string_bytes words.now) formats.now before j s).text) }
+    ensures exact_dumped { WhereTold (view image) (J.left symbols.old) (S.left script.old) (λ before j s.
+        IsAnswer result.status → Appends (D.written dump.old) (D.written dump.new) (run_of (map string_bytes words.now) formats.now before j s).dumped) }
+    ensures exact_symbols { WhereTold (view image) (J.left symbols.old) (S.left script.old) (λ before j s.
+        IsAnswer result.status → Consumes (J.left symbols.old) (J.left symbols.new) (run_of (map string_bytes words.now) formats.now before j s).symbols_taken) }
+    ensures exact_script { WhereTold (view image) (J.left symbols.old) (S.left script.old) (λ before j s.
+        IsAnswer result.status → Consumes (S.left script.old) (S.left script.new) (run_of (map string_bytes words.now) formats.now before j s).script_taken) }
 
     // A fault is answered only where a call on that object failed.
     ensures image_fault { HasCause (⟦<Box<dyn Layer> as Layer>⟧.faults image) (⟦<Box<dyn Layer> as Layer>⟧.faults result.layer) (result.status ≡ Status.ImageFault) }
@@ -108,17 +142,19 @@ pub fn run<J: Source, S: Source, O: Sink, D: Sink, L: Ledger>(
     ensures out_fault { HasCause (O.faults out.old) (O.faults out.new) (result.status ≡ Status.OutFault) }
     ensures dump_fault { HasCause (D.faults dump.old) (D.faults dump.new) (result.status ≡ Status.DumpFault) }
 
-    // The layer is the image, and shows what it showed.
-    ensures layer_view { view result.layer ≡ view image }
-    ensures layer_kind { kind result.layer ≡ kind image }
+    // The layer is the image, and shows what it showed, or what the formats give where one of them was attached.
+    // Under an answer it shows just what the run comes to.
+    ensures layer { KeepsOrAttaches formats.now (view image) (kind image) (view result.layer) (kind result.layer) }
+    ensures exact_layer { IfSome (view image) (λ before.
+        IsAnswer result.status → Shows (shown_of (map string_bytes words.now) formats.now before) (view result.layer) (kind result.layer)) }
     ensures layer_calls { calls image ≤ calls result.layer }
 
     // Where nothing failed, the run comes to its end, unless memory is wanting.
-    ensures complete { WhereTold (view image) (J.left symbols.old) (S.left script.old) (λ memory j s.
+    ensures complete { WhereTold (view image) (J.left symbols.old) (S.left script.old) (λ before j s.
         NothingFailed (⟦<Box<dyn Layer> as Layer>⟧.faults image) (⟦<Box<dyn Layer> as Layer>⟧.faults result.layer) (J.faults symbols.old) (J.faults symbols.new) (S.faults script.old) (S.faults script.new)
         (O.faults out.old) (O.faults out.new) (D.faults dump.old) (D.faults dump.new)
-        → (result.status ≡ (run_of (map string_bytes words.now) memory j s).status) ⊎ (result.status ≡ Status.Memory)) }
+        → (result.status ≡ (run_of (map string_bytes words.now) formats.now before j s).status) ⊎ (result.status ≡ Status.Memory)) }
 {
-    let (status, layer) = run_over(alloc, words, image, script, out);
+    let (status, layer) = run_over(alloc, words, image, formats, script, out);
     Ended { status, layer }
 }

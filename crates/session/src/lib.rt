@@ -8,6 +8,7 @@ mod line;
 mod line_buffer;
 mod read;
 mod script;
+mod stack;
 mod status;
 mod words;
 

@@ -4,4 +4,4 @@ use Rattle.session.proofs.dump_row.append_row.Goals as goal
 
 pub returns : goal.returns
 unfolding dump_row
-returns c = simp (c.in_ok-push-2.ensures.items, c.in_ok-append_characters.ensures, c.in_ok-extend_from_slice-2.ensures.items, c.in_ok-append_cells.ensures, c.in_ok-push.ensures.items, c.in_ok-append_hex.ensures, c.in_ok-extend_from_slice.ensures.items, append_assoc)
+returns c = simp (c.in_ok-push-2.ensures.items, c.in_ok-append_characters.ensures, c.in_ok-extend_from_slice.ensures.items, c.in_ok-append_cells.ensures, c.in_ok-push.ensures.items, c.in_ok-append_address.ensures, append_assoc)

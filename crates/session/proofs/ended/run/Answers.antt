@@ -2,10 +2,12 @@ use Rattle.std.proofs.Common.{◌≡◌, ◌⊎◌, ℕ, List, Option, Some, map
 use Rattle.std.specs.Prelude.{string_bytes}
 use Rattle.std.specs.Io.KnownBytes.{Appends, Consumes}
 use Rattle.layer_base.specs.Known.{AppendsPrefix}
+use Rattle.layer_base.specs.View.{physical}
 use Rattle.layer_base.proofs.Appending.{Appends-none}
 use Rattle.session.specs.Causes.{NothingFailed}
 use Rattle.session.specs.Headline.{GavePrefix, HasWholeLines}
 use Rattle.session.specs.Run.{run_of}
+use Rattle.session.specs.Stack.{attached_view}
 use Rattle.session.specs.Status.{IsAnswer}
 use Rattle.session.specs.declared.status.Status.TheVariants.{Memory}
 use Rattle.session.proofs.Projections.{WhereTold-each, WhereTold-ran, ran-text, ran-given, ran-lines, ran-exact_text, ran-exact_script, run_of-dumped, run_of-symbols, Consumes-none, ended}
@@ -14,59 +16,59 @@ use Rattle.session.proofs.ended.run.Goals as goal
 pub returns-clause-text : goal.returns-clause-text
 returns-clause-text g c =
     let words = map string_bytes c.args.words.now in
-    WhereTold-ran _ (g.J.Source.left c.args.symbols.now) (g.S.Source.left c.args.script.now) (g.S.Source.left c.run_over-status.new.script) (g.O.Sink.written c.args.out.now) (g.O.Sink.written c.run_over-status.new.out) c.run_over-status.result.0 (run_of words)
-    (λ left memory j s. AppendsPrefix (g.O.Sink.written c.args.out.now) (g.O.Sink.written c.run_over-status.new.out) (run_of words memory j s).text)
-    c.run_over-status.ensures.ran (λ memory j s ran. ran-text memory (run_of words memory j s) s (g.S.Source.left c.run_over-status.new.script) (g.O.Sink.written c.args.out.now) (g.O.Sink.written c.run_over-status.new.out) c.run_over-status.result.0 ran)
+    WhereTold-ran _ (g.J.Source.left c.args.symbols.now) (g.S.Source.left c.args.script.now) (g.S.Source.left c.run_over-status.new.script) (g.O.Sink.written c.args.out.now) (g.O.Sink.written c.run_over-status.new.out) c.run_over-status.result.0 (run_of words c.args.formats.now) (λ view. physical (attached_view c.args.formats.now view))
+    (λ left view j s. AppendsPrefix (g.O.Sink.written c.args.out.now) (g.O.Sink.written c.run_over-status.new.out) (run_of words c.args.formats.now view j s).text)
+    c.run_over-status.ensures.ran (λ view j s ran. ran-text (physical (attached_view c.args.formats.now view)) (run_of words c.args.formats.now view j s) s (g.S.Source.left c.run_over-status.new.script) (g.O.Sink.written c.args.out.now) (g.O.Sink.written c.run_over-status.new.out) c.run_over-status.result.0 ran)
 
 pub returns-clause-script_given : goal.returns-clause-script_given
 returns-clause-script_given g c =
     let words = map string_bytes c.args.words.now in
-    WhereTold-ran _ (g.J.Source.left c.args.symbols.now) (g.S.Source.left c.args.script.now) (g.S.Source.left c.run_over-status.new.script) (g.O.Sink.written c.args.out.now) (g.O.Sink.written c.run_over-status.new.out) c.run_over-status.result.0 (run_of words)
-    (λ left memory j s. GavePrefix left (g.S.Source.left c.run_over-status.new.script) (run_of words memory j s).script_taken)
-    c.run_over-status.ensures.ran (λ memory j s ran. ran-given memory (run_of words memory j s) s (g.S.Source.left c.run_over-status.new.script) (g.O.Sink.written c.args.out.now) (g.O.Sink.written c.run_over-status.new.out) c.run_over-status.result.0 ran)
+    WhereTold-ran _ (g.J.Source.left c.args.symbols.now) (g.S.Source.left c.args.script.now) (g.S.Source.left c.run_over-status.new.script) (g.O.Sink.written c.args.out.now) (g.O.Sink.written c.run_over-status.new.out) c.run_over-status.result.0 (run_of words c.args.formats.now) (λ view. physical (attached_view c.args.formats.now view))
+    (λ left view j s. GavePrefix left (g.S.Source.left c.run_over-status.new.script) (run_of words c.args.formats.now view j s).script_taken)
+    c.run_over-status.ensures.ran (λ view j s ran. ran-given (physical (attached_view c.args.formats.now view)) (run_of words c.args.formats.now view j s) s (g.S.Source.left c.run_over-status.new.script) (g.O.Sink.written c.args.out.now) (g.O.Sink.written c.run_over-status.new.out) c.run_over-status.result.0 ran)
 
 pub returns-clause-whole_lines : goal.returns-clause-whole_lines
 returns-clause-whole_lines g c =
     let words = map string_bytes c.args.words.now in
-    WhereTold-ran _ (g.J.Source.left c.args.symbols.now) (g.S.Source.left c.args.script.now) (g.S.Source.left c.run_over-status.new.script) (g.O.Sink.written c.args.out.now) (g.O.Sink.written c.run_over-status.new.out) c.run_over-status.result.0 (run_of words)
-    (λ left memory j s. HasWholeLines memory left (g.S.Source.left c.run_over-status.new.script) (g.O.Sink.written c.args.out.now) (g.O.Sink.written c.run_over-status.new.out) c.run_over-status.result.0)
-    c.run_over-status.ensures.ran (λ memory j s ran. ran-lines memory (run_of words memory j s) s (g.S.Source.left c.run_over-status.new.script) (g.O.Sink.written c.args.out.now) (g.O.Sink.written c.run_over-status.new.out) c.run_over-status.result.0 ran)
+    WhereTold-ran _ (g.J.Source.left c.args.symbols.now) (g.S.Source.left c.args.script.now) (g.S.Source.left c.run_over-status.new.script) (g.O.Sink.written c.args.out.now) (g.O.Sink.written c.run_over-status.new.out) c.run_over-status.result.0 (run_of words c.args.formats.now) (λ view. physical (attached_view c.args.formats.now view))
+    (λ left view j s. HasWholeLines (physical (attached_view c.args.formats.now view)) left (g.S.Source.left c.run_over-status.new.script) (g.O.Sink.written c.args.out.now) (g.O.Sink.written c.run_over-status.new.out) c.run_over-status.result.0)
+    c.run_over-status.ensures.ran (λ view j s ran. ran-lines (physical (attached_view c.args.formats.now view)) (run_of words c.args.formats.now view j s) s (g.S.Source.left c.run_over-status.new.script) (g.O.Sink.written c.args.out.now) (g.O.Sink.written c.run_over-status.new.out) c.run_over-status.result.0 ran)
 
 pub returns-clause-exact_status : goal.returns-clause-exact_status
 returns-clause-exact_status g c =
     let words = map string_bytes c.args.words.now in
-    WhereTold-ran _ (g.J.Source.left c.args.symbols.now) (g.S.Source.left c.args.script.now) (g.S.Source.left c.run_over-status.new.script) (g.O.Sink.written c.args.out.now) (g.O.Sink.written c.run_over-status.new.out) c.run_over-status.result.0 (run_of words)
-    (λ left memory j s. IsAnswer c.run_over-status.result.0 → c.run_over-status.result.0 ≡ (run_of words memory j s).status)
-    c.run_over-status.ensures.ran (λ memory j s ran. ran.4.status_is)
+    WhereTold-ran _ (g.J.Source.left c.args.symbols.now) (g.S.Source.left c.args.script.now) (g.S.Source.left c.run_over-status.new.script) (g.O.Sink.written c.args.out.now) (g.O.Sink.written c.run_over-status.new.out) c.run_over-status.result.0 (run_of words c.args.formats.now) (λ view. physical (attached_view c.args.formats.now view))
+    (λ left view j s. IsAnswer c.run_over-status.result.0 → c.run_over-status.result.0 ≡ (run_of words c.args.formats.now view j s).status)
+    c.run_over-status.ensures.ran (λ view j s ran. ran.4.status_is)
 
 pub returns-clause-exact_text : goal.returns-clause-exact_text
 returns-clause-exact_text g c =
     let words = map string_bytes c.args.words.now in
-    WhereTold-ran _ (g.J.Source.left c.args.symbols.now) (g.S.Source.left c.args.script.now) (g.S.Source.left c.run_over-status.new.script) (g.O.Sink.written c.args.out.now) (g.O.Sink.written c.run_over-status.new.out) c.run_over-status.result.0 (run_of words)
-    (λ left memory j s. IsAnswer c.run_over-status.result.0 → Appends (g.O.Sink.written c.args.out.now) (g.O.Sink.written c.run_over-status.new.out) (run_of words memory j s).text)
-    c.run_over-status.ensures.ran (λ memory j s ran. ran-exact_text memory (run_of words memory j s) s (g.S.Source.left c.run_over-status.new.script) (g.O.Sink.written c.args.out.now) (g.O.Sink.written c.run_over-status.new.out) c.run_over-status.result.0 ran)
+    WhereTold-ran _ (g.J.Source.left c.args.symbols.now) (g.S.Source.left c.args.script.now) (g.S.Source.left c.run_over-status.new.script) (g.O.Sink.written c.args.out.now) (g.O.Sink.written c.run_over-status.new.out) c.run_over-status.result.0 (run_of words c.args.formats.now) (λ view. physical (attached_view c.args.formats.now view))
+    (λ left view j s. IsAnswer c.run_over-status.result.0 → Appends (g.O.Sink.written c.args.out.now) (g.O.Sink.written c.run_over-status.new.out) (run_of words c.args.formats.now view j s).text)
+    c.run_over-status.ensures.ran (λ view j s ran. ran-exact_text (physical (attached_view c.args.formats.now view)) (run_of words c.args.formats.now view j s) s (g.S.Source.left c.run_over-status.new.script) (g.O.Sink.written c.args.out.now) (g.O.Sink.written c.run_over-status.new.out) c.run_over-status.result.0 ran)
 
 pub returns-clause-exact_script : goal.returns-clause-exact_script
 returns-clause-exact_script g c =
     let words = map string_bytes c.args.words.now in
-    WhereTold-ran _ (g.J.Source.left c.args.symbols.now) (g.S.Source.left c.args.script.now) (g.S.Source.left c.run_over-status.new.script) (g.O.Sink.written c.args.out.now) (g.O.Sink.written c.run_over-status.new.out) c.run_over-status.result.0 (run_of words)
-    (λ left memory j s. IsAnswer c.run_over-status.result.0 → Consumes left (g.S.Source.left c.run_over-status.new.script) (run_of words memory j s).script_taken)
-    c.run_over-status.ensures.ran (λ memory j s ran. ran-exact_script memory (run_of words memory j s) s (g.S.Source.left c.run_over-status.new.script) (g.O.Sink.written c.args.out.now) (g.O.Sink.written c.run_over-status.new.out) c.run_over-status.result.0 ran)
+    WhereTold-ran _ (g.J.Source.left c.args.symbols.now) (g.S.Source.left c.args.script.now) (g.S.Source.left c.run_over-status.new.script) (g.O.Sink.written c.args.out.now) (g.O.Sink.written c.run_over-status.new.out) c.run_over-status.result.0 (run_of words c.args.formats.now) (λ view. physical (attached_view c.args.formats.now view))
+    (λ left view j s. IsAnswer c.run_over-status.result.0 → Consumes left (g.S.Source.left c.run_over-status.new.script) (run_of words c.args.formats.now view j s).script_taken)
+    c.run_over-status.ensures.ran (λ view j s ran. ran-exact_script (physical (attached_view c.args.formats.now view)) (run_of words c.args.formats.now view j s) s (g.S.Source.left c.run_over-status.new.script) (g.O.Sink.written c.args.out.now) (g.O.Sink.written c.run_over-status.new.out) c.run_over-status.result.0 ran)
 
 pub returns-clause-exact_dumped : goal.returns-clause-exact_dumped
 returns-clause-exact_dumped g c =
     let words = map string_bytes c.args.words.now in
-    WhereTold-each _ (g.J.Source.left c.args.symbols.now) (g.S.Source.left c.args.script.now) (λ symbols left memory j s. IsAnswer c.run_over-status.result.0 → Appends (g.D.Sink.written c.args.dump.now) (g.D.Sink.written c.args.dump.now) (run_of words memory j s).dumped) (λ memory j s. λ answer. rw (run_of-dumped words memory j s) (Appends-none (g.D.Sink.written c.args.dump.now)))
+    WhereTold-each _ (g.J.Source.left c.args.symbols.now) (g.S.Source.left c.args.script.now) (λ symbols left view j s. IsAnswer c.run_over-status.result.0 → Appends (g.D.Sink.written c.args.dump.now) (g.D.Sink.written c.args.dump.now) (run_of words c.args.formats.now view j s).dumped) (λ view j s. λ answer. rw (run_of-dumped words c.args.formats.now view j s) (Appends-none (g.D.Sink.written c.args.dump.now)))
 
 pub returns-clause-exact_symbols : goal.returns-clause-exact_symbols
 returns-clause-exact_symbols g c =
     let words = map string_bytes c.args.words.now in
     let left = g.J.Source.left c.args.symbols.now in
-    WhereTold-each _ left (g.S.Source.left c.args.script.now) (λ symbols script memory j s. IsAnswer c.run_over-status.result.0 → Consumes left left (run_of words memory j s).symbols_taken) (λ memory j s answer. rw (run_of-symbols words memory j s) (Consumes-none left))
+    WhereTold-each _ left (g.S.Source.left c.args.script.now) (λ symbols script view j s. IsAnswer c.run_over-status.result.0 → Consumes left left (run_of words c.args.formats.now view j s).symbols_taken) (λ view j s answer. rw (run_of-symbols words c.args.formats.now view j s) (Consumes-none left))
 
 pub returns-clause-complete : goal.returns-clause-complete
 returns-clause-complete g c =
     let words = map string_bytes c.args.words.now in
-    WhereTold-ran _ (g.J.Source.left c.args.symbols.now) (g.S.Source.left c.args.script.now) (g.S.Source.left c.run_over-status.new.script) (g.O.Sink.written c.args.out.now) (g.O.Sink.written c.run_over-status.new.out) c.run_over-status.result.0 (run_of words)
-    (λ left memory j s. NothingFailed ((g.dyn-1.0.entry c.args.image.vtable).1.faults c.args.image.value) ((g.dyn-1.0.entry c.run_over-status.result.1.vtable).1.faults c.run_over-status.result.1.value) (g.J.Source.faults c.args.symbols.now) (g.J.Source.faults c.args.symbols.now) (g.S.Source.faults c.args.script.now) (g.S.Source.faults c.run_over-status.new.script) (g.O.Sink.faults c.args.out.now) (g.O.Sink.faults c.run_over-status.new.out) (g.D.Sink.faults c.args.dump.now) (g.D.Sink.faults c.args.dump.now) → (c.run_over-status.result.0 ≡ (run_of words memory j s).status) ⊎ (c.run_over-status.result.0 ≡ Memory))
-    c.run_over-status.ensures.ran (λ memory j s ran. λ nothing. ended c.run_over-status.result.0 (run_of words memory j s).status c.run_over-status.ensures.end ran.4.status_is (λ is. nothing.image_kept (c.run_over-status.ensures.image.rose is)) (λ is. nothing.script_kept (c.run_over-status.ensures.script.rose is)) (λ is. nothing.out_kept (c.run_over-status.ensures.out.rose is)))
+    WhereTold-ran _ (g.J.Source.left c.args.symbols.now) (g.S.Source.left c.args.script.now) (g.S.Source.left c.run_over-status.new.script) (g.O.Sink.written c.args.out.now) (g.O.Sink.written c.run_over-status.new.out) c.run_over-status.result.0 (run_of words c.args.formats.now) (λ view. physical (attached_view c.args.formats.now view))
+    (λ left view j s. NothingFailed ((g.dyn-1.0.entry c.args.image.vtable).1.faults c.args.image.value) ((g.dyn-1.0.entry c.run_over-status.result.1.vtable).1.faults c.run_over-status.result.1.value) (g.J.Source.faults c.args.symbols.now) (g.J.Source.faults c.args.symbols.now) (g.S.Source.faults c.args.script.now) (g.S.Source.faults c.run_over-status.new.script) (g.O.Sink.faults c.args.out.now) (g.O.Sink.faults c.run_over-status.new.out) (g.D.Sink.faults c.args.dump.now) (g.D.Sink.faults c.args.dump.now) → (c.run_over-status.result.0 ≡ (run_of words c.args.formats.now view j s).status) ⊎ (c.run_over-status.result.0 ≡ Memory))
+    c.run_over-status.ensures.ran (λ view j s ran. λ nothing. ended c.run_over-status.result.0 (run_of words c.args.formats.now view j s).status c.run_over-status.ensures.end ran.4.status_is (λ is. nothing.image_kept (c.run_over-status.ensures.image.rose is)) (λ is. nothing.script_kept (c.run_over-status.ensures.script.rose is)) (λ is. nothing.out_kept (c.run_over-status.ensures.out.rose is)))

@@ -1,0 +1,72 @@
+-- A run that ends before the script is read.
+use Rattle.std.proofs.Common.{◌≡◌, ℕ, Bool, true, false, List, [], Option, Some, Result, Ok, Err, refl, sym, ◌∙◌, ap}
+use Rattle.std.specs.Io.{StartsWith}
+use Rattle.std.specs.Io.KnownBytes.{Appends, Consumes}
+use Rattle.layer_base.specs.AddressSpace.{AddressSpace}
+use Rattle.layer_base.specs.Known.{Writes}
+use Rattle.layer_base.specs.View.{View}
+use Rattle.layer_base.specs.declared.layer.Kind.{Kind}
+use Rattle.layer_base.proofs.Appending.{Appends-none, StartsWith-from, StartsWith-same}
+use Rattle.session.specs.Ran.{Ran, RanOver}
+use Rattle.session.specs.Run.{Outcome, refused, stack_run, run_of}
+use Rattle.session.specs.Stack.{stack_of}
+use Rattle.session.specs.Status.{IsAnswer, status_of_fault, status_after}
+use Rattle.session.specs.Words.{are_accepted}
+use Rattle.session.specs.declared.status.CommandFault.{CommandFault}
+use Rattle.session.specs.declared.status.Status.{Status}
+use Rattle.session.specs.declared.status.Status.TheVariants as status
+use Rattle.session.proofs.Ending.{Piece, piece_of, fault_is_no_answer, fault_is_of_no_script}
+
+pub run_of-accepted : (words : List (List ℕ)) (formats : List Kind) (view : View) (symbols script : List ℕ) → are_accepted words ≡ true → run_of words formats view symbols script ≡ stack_run (stack_of formats view) script
+unfolding run_of
+run_of-accepted words formats view symbols script accepted = rw accepted refl
+
+pub run_of-refused : (words : List (List ℕ)) (formats : List Kind) (view : View) (symbols script : List ℕ) → are_accepted words ≡ false → run_of words formats view symbols script ≡ refused
+unfolding run_of
+run_of-refused words formats view symbols script not_accepted = rw not_accepted refl
+
+-- A run that takes nothing of the script and has nothing but a line to write ended, or the line was cut short.
+module _ (memory : AddressSpace) (outcome : Outcome) (none : outcome.script_taken ≡ []) (script : List ℕ) (out out' : Option (List ℕ)) (result : Result (Unit {0}) CommandFault) where
+  pub line-ended : Writes out out' result outcome.text → RanOver memory outcome script (Some script) out out' (status_after outcome.status result)
+  line-ended writes =
+      let piece = piece_of out out' outcome.text result writes in (
+        [],
+        piece.piece,
+        refl,
+        piece.written,
+        record {
+          given_prefix = StartsWith-from outcome.script_taken [] [] none;
+          text_prefix = piece.front;
+          lines = refl;
+          lines_at_fault = λ is. refl;
+          status_is = ended result;
+          text_is = λ answered. piece.whole (same_answer result answered);
+          given_is = λ answered. sym none;
+        },
+      )
+    where
+      same_answer : (result : Result (Unit {0}) CommandFault) → IsAnswer (status_after outcome.status result) → IsAnswer (status_after status.Ok result)
+      same_answer (Ok done) answered = tt
+      same_answer (Err fault) answered = answered
+
+      ended : (result : Result (Unit {0}) CommandFault) → IsAnswer (status_after outcome.status result) → status_after outcome.status result ≡ outcome.status
+      ended (Ok done) answered = refl
+      ended (Err fault) answered = absurd (fault_is_no_answer fault answered)
+
+-- A run that a fault of the image ended before the script, or want of memory.
+pub none-ran : (memory : AddressSpace) (outcome : Outcome) (script : List ℕ) (out : Option (List ℕ)) (end : Status) → (IsAnswer end → ⊥) → RanOver memory outcome script (Some script) out out end
+none-ran memory outcome script out end no_answer = (
+  [],
+  [],
+  refl,
+  Appends-none out,
+  record {
+    given_prefix = refl;
+    text_prefix = refl;
+    lines = refl;
+    lines_at_fault = λ is. refl;
+    status_is = λ answer. absurd (no_answer answer);
+    text_is = λ answer. absurd (no_answer answer);
+    given_is = λ answer. absurd (no_answer answer);
+  },
+)
