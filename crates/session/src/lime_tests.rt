@@ -252,7 +252,8 @@ fn failing_lime(rt: HostRuntime) -> Result<(), Fail> {
                 cut: by,
                 ..over(&image, script)
             };
-            expect_faults(&rt, alloc, &given, (status, text), name)?;
+            let calls = expect_faults(&rt, alloc, &given, (status, text), name)?;
+            assert!(rt; 0 < calls, "the calls of {name}");
         }
     }
     Ok(())

@@ -7,9 +7,10 @@ use std::test::Fail;
 /// A range: its first and its last address, and those of its bytes that stand in the file.
 pub(crate) type Range<'a> = (u64, u64, &'a str);
 
-/// Two ranges with a gap between them: 72 bytes of a file, and its second header from 0x24 on.
+/// Two ranges with a gap between them: 72 bytes of a file, with the second header at 0x24.
 pub(crate) const TWO: &[Range<'static>] = &[(0, 3, "ABCD"), (8, 11, "EFGH")];
 
+/// Every byte of an image is kept.
 pub(crate) const ALL: usize = usize::MAX;
 
 /// A script of 14 bytes, of which a refused image leaves all.
