@@ -14,7 +14,7 @@ mod source;
 use device::RealDevice;
 use file_layer::FileLayer;
 use input::RealInput;
-use layer_base::{Layer, PathWord, Steps};
+use layer_base::{Kind, Layer, PathWord, Steps};
 use output::RealOutput;
 use session::{Status, run};
 use sink::RealSink;
@@ -70,7 +70,7 @@ fn run_files<L: Ledger>(rt: &HostRuntime, blank: Blank) -> Result<Status, AllocE
         alloc,
         &words,
         image,
-        &[],
+        &[Kind::Lime],
         &mut symbols,
         &mut script,
         &mut out,

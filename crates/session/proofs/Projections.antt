@@ -1,12 +1,11 @@
 -- What a run that ran so far left, part by part.
-use Rattle.std.proofs.Common.{◌≡◌, ◌⊎◌, inl, inr, ℕ, Bool, true, false, List, [], Option, None, Some, Result, Ok, Err, cond, refl, sym, subst, ◌∙◌, ap}
+use Rattle.std.proofs.Common.{◌≡◌, ◌⊎◌, inl, inr, ℕ, Bool, true, false, List, [], Option, None, Some, Result, Ok, Err, cond, refl, subst}
 use Rattle.std.specs.Prelude.{IfSome}
 use Rattle.std.specs.Io.KnownBytes.{Appends, Consumes}
 use Rattle.layer_base.specs.AddressSpace.{AddressSpace}
 use Rattle.layer_base.specs.Known.{AppendsPrefix}
 use Rattle.layer_base.specs.View.{View}
 use Rattle.layer_base.specs.declared.layer.Kind.{Kind}
-use Rattle.layer_base.proofs.Appending.{Appends-none}
 use Rattle.session.specs.Headline.{WhereTold, GavePrefix, HasWholeLines}
 use Rattle.session.specs.Ran.{RanOver, IsScriptEnd}
 use Rattle.session.specs.Run.{Outcome, refused, stack_run, run_of}

@@ -1,21 +1,19 @@
 -- A run that ends before the script is read.
-use Rattle.std.proofs.Common.{◌≡◌, ℕ, Bool, true, false, List, [], Option, Some, Result, Ok, Err, refl, sym, ◌∙◌, ap}
-use Rattle.std.specs.Io.{StartsWith}
-use Rattle.std.specs.Io.KnownBytes.{Appends, Consumes}
+use Rattle.std.proofs.Common.{◌≡◌, ℕ, true, false, List, [], Option, Some, Result, Ok, Err, refl, sym}
 use Rattle.layer_base.specs.AddressSpace.{AddressSpace}
 use Rattle.layer_base.specs.Known.{Writes}
 use Rattle.layer_base.specs.View.{View}
 use Rattle.layer_base.specs.declared.layer.Kind.{Kind}
-use Rattle.layer_base.proofs.Appending.{Appends-none, StartsWith-from, StartsWith-same}
-use Rattle.session.specs.Ran.{Ran, RanOver}
+use Rattle.layer_base.proofs.Appending.{Appends-none, StartsWith-from}
+use Rattle.session.specs.Ran.{RanOver}
 use Rattle.session.specs.Run.{Outcome, refused, stack_run, run_of}
 use Rattle.session.specs.Stack.{stack_of}
-use Rattle.session.specs.Status.{IsAnswer, status_of_fault, status_after}
+use Rattle.session.specs.Status.{IsAnswer, status_after}
 use Rattle.session.specs.Words.{are_accepted}
 use Rattle.session.specs.declared.status.CommandFault.{CommandFault}
 use Rattle.session.specs.declared.status.Status.{Status}
 use Rattle.session.specs.declared.status.Status.TheVariants as status
-use Rattle.session.proofs.Ending.{Piece, piece_of, fault_is_no_answer, fault_is_of_no_script}
+use Rattle.session.proofs.Ending.{piece_of, fault_is_no_answer}
 
 pub run_of-accepted : (words : List (List ℕ)) (formats : List Kind) (view : View) (symbols script : List ℕ) → are_accepted words ≡ true → run_of words formats view symbols script ≡ stack_run (stack_of formats view) script
 unfolding run_of

@@ -1,4 +1,4 @@
-use Rattle.std.proofs.Common.{rules, append_assoc}
+use Rattle.std.proofs.Common.{append_assoc}
 use Rattle.session.specs.DumpRow.{dump_row}
 use Rattle.session.proofs.dump_row.append_row.Goals as goal
 

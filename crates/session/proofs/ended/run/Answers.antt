@@ -1,4 +1,4 @@
-use Rattle.std.proofs.Common.{◌≡◌, ◌⊎◌, ℕ, List, Option, Some, map, sym, subst, arith}
+use Rattle.std.proofs.Common.{◌≡◌, ◌⊎◌, map}
 use Rattle.std.specs.Prelude.{string_bytes}
 use Rattle.std.specs.Io.KnownBytes.{Appends, Consumes}
 use Rattle.layer_base.specs.Known.{AppendsPrefix}

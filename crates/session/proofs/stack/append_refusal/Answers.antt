@@ -1,4 +1,4 @@
-use Rattle.std.proofs.Common.{rules, List, ℕ, ◌++◌, append_assoc, sym, ap}
+use Rattle.std.proofs.Common.{List, ℕ, ◌++◌, append_assoc, sym, ap}
 use Rattle.std.specs.Prelude.{codes}
 use Rattle.session.specs.DumpRow.{address_cell}
 use Rattle.session.specs.Stack.{format_word, rule_word, refusal_text}
