@@ -405,7 +405,7 @@ fn pieces(rt: HostRuntime) -> Result<(), Fail> {
         ..over_digits("read phys 0 12288\n")
     };
     let mut whole = String::new(rt.alloc());
-    for row in 0..768 {
+    for row in 0..768u64 {
         let at = 16 * row;
         whole.push_str(format!(in rt.alloc(); "0x{at:016x}")?.as_str())?;
         whole.push_str("  30 30 30 30 30 30 30 30 30 30 30 30 30 30 30 30  |0000000000000000|\n")?;
