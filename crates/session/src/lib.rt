@@ -15,7 +15,13 @@ pub use ended::{Ended, run};
 pub use status::Status;
 
 #[cfg(test)]
+mod lime_refusal_tests;
+#[cfg(test)]
+mod lime_tests;
+#[cfg(test)]
 mod line_tests;
+#[cfg(test)]
+mod test_images;
 #[cfg(test)]
 mod test_runs;
 #[cfg(test)]

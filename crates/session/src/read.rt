@@ -9,8 +9,8 @@ ghost use Rattle.hex_text.specs.DumpRow.{dump_text};
 ghost use Rattle.session.specs.Read.{AddsCells, IsCountWithin};
 ghost use Rattle.session.specs.declared.read.TheConstants.{PIECE};
 
-use hex_text::append_rows;
 use crate::status::CommandFault;
+use hex_text::append_rows;
 use layer_base::{DeviceFailed, Layer, Run, Sink, write_whole};
 use std::alloc::{AllocError, Global};
 

@@ -5,8 +5,8 @@ ghost use Rattle.layer_base.specs.Known.{Writes};
 ghost use Rattle.session.specs.Stack.{stack_of, KeepsOrAttaches, TriesAs, format_word, rule_word, refusal_text};
 
 use crate::command::write_text;
-use hex_text::append_address;
 use crate::status::CommandFault;
+use hex_text::append_address;
 use layer_base::{Kind, Layer, Rule, Sink, Why};
 use std::alloc::{AllocError, Global};
 

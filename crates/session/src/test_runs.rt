@@ -3,7 +3,7 @@ ghost use Rattle.std.specs.Prelude.{◌≡◌, ◌<◌};
 
 use crate::run;
 use file_layer::FileLayer;
-use layer_base::{Layer, MemDevice, MemSink, MemSource, Source, Steps};
+use layer_base::{Kind, Layer, MemDevice, MemSink, MemSource, Source, Steps};
 use std::alloc::{AllocError, Global};
 use std::marker::Brand;
 use std::process::Abort;
@@ -26,7 +26,7 @@ pub(crate) const TOO_LONG: &str = "error: line too long\n";
 /// What a run is given. Every object gives or takes at most `cut` bytes a call.
 #[derive(Clone, Copy)]
 pub(crate) struct Given<'a> {
-    pub(crate) image: &'a str,
+    pub(crate) image: &'a [u8],
     pub(crate) script: &'a str,
     pub(crate) words: &'a [&'a str],
     pub(crate) image_fails: &'a [u64],
@@ -47,7 +47,7 @@ pub(crate) struct Seen {
 // The script over the sixteen digits, with nothing that fails.
 pub(crate) fn over_digits(script: &str) -> Given<'_> {
     Given {
-        image: DIGITS,
+        image: DIGITS.as_bytes(),
         script,
         words: &["i", "s"],
         image_fails: &[],
@@ -80,20 +80,21 @@ fn source_of(
 
 fn device_of(alloc: Global, given: &Given<'_>) -> Result<MemDevice, AllocError> {
     Ok(MemDevice::new(
-        given.image.as_bytes().to_vec(alloc)?,
+        given.image.to_vec(alloc)?,
         given.image_fails.to_vec(alloc)?,
         given.cut.max(1),
     ))
 }
 
-// How many bytes the source has left. None of its calls from here on fails.
+// How many bytes the source has left. A call of it that fails takes none.
 fn count_left(source: &mut MemSource) -> usize {
     let mut buf = [0; 4096];
     let mut left = 0usize;
     for _ in 0..u64::MAX {
         match source.read(&mut buf) {
-            Ok(0) | Err(_) => return left,
+            Ok(0) => return left,
             Ok(n) => left = left.saturating_add(n),
+            Err(_) => {}
         }
     }
     left
@@ -116,7 +117,7 @@ fn run_with<L: Ledger>(alloc: Global, given: &Given<'_>, blank: Blank) -> Result
         alloc,
         &words,
         image,
-        &[],
+        &[Kind::Lime],
         &mut symbols,
         &mut script,
         &mut out,
@@ -149,6 +150,37 @@ pub(crate) fn expect(
     assert_eq!(rt; seen.left, left, "what is left by {name}");
     assert_eq!(rt; seen.dumped, 0, "what is dumped by {name}");
     Ok(())
+}
+
+// Runs with each call of the image failing in turn, until the run makes no such call: then its status and text are as
+// wanted. A failing run has the status of such a fault and a front of the text. Answers how many calls failed.
+pub(crate) fn expect_faults(
+    rt: &impl Abort,
+    alloc: Global,
+    given: &Given<'_>,
+    (status, text): (u8, &str),
+    name: &str,
+) -> Result<u64, Fail> {
+    for call in 0..10_000 {
+        let image_fails = &[call];
+        let seen = seen_of(
+            alloc,
+            &Given {
+                image_fails,
+                ..*given
+            },
+        )?;
+        if seen.status != 5 {
+            assert_eq!(rt; seen.text.as_str(), text, "the text of {name}");
+            assert_eq!(rt; seen.status, status, "the status of {name}");
+            return Ok(call);
+        }
+        assert!(rt;
+            text.starts_with(seen.text.as_str()),
+            "the front of {name} at {call}"
+        );
+    }
+    Err("a run makes too many calls".into())
 }
 
 // Whole scripts over the sixteen digits, each with its text.

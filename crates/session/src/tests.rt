@@ -1,8 +1,8 @@
 //! How runs end, as tables: what goes in, and the status and the text that come out.
-ghost use Rattle.std.specs.Prelude.{◌≡◌, ◌<◌};
-
 use crate::Status;
-use crate::test_runs::{FIRST, Given, ROW, UNKNOWN, USAGE, expect, filled, over_digits, seen_of};
+use crate::test_runs::{
+    FIRST, Given, ROW, UNKNOWN, USAGE, expect, expect_faults, filled, over_digits, seen_of,
+};
 use std::test::Fail;
 
 #[test]
@@ -15,7 +15,7 @@ fn ends(rt: HostRuntime) -> Result<(), Fail> {
         (
             "an empty image",
             Given {
-                image: "",
+                image: &[],
                 ..over_digits("read phys 0 1\n")
             },
             0,
@@ -145,7 +145,7 @@ fn ends(rt: HostRuntime) -> Result<(), Fail> {
             },
             5,
             "",
-            0,
+            15,
         ),
     ] {
         expect(&rt, rt.alloc(), &given, (status, text, left), name)?;
@@ -223,50 +223,52 @@ fn failing_scripts(rt: HostRuntime) -> Result<(), Fail> {
 #[test]
 fn failing_images(rt: HostRuntime) -> Result<(), Fail> {
     let reads = "read phys 0 16\nread phys 8 17\n";
-    let whole = seen_of(rt.alloc(), &over_digits(reads))?;
-    assert!(rt; whole.text.as_str().starts_with(ROW));
-    // Each byte costs a call, and each hole one.
-    for call in 0..40 {
-        let fails = [call];
+    let text = [
+        ROW,
+        "0x0000000000000008  38 39 41 42 43 44 45 46 -- -- -- -- -- -- -- --  |89ABCDEF        |\n",
+        "0x0000000000000018  --  | |\n",
+    ]
+    .concat(rt.alloc())?;
+    for (cut, least) in [(1, 24), (7, 5), (1000, 2)] {
         let given = Given {
-            image_fails: &fails,
-            cut: 1,
+            cut,
             ..over_digits(reads)
         };
-        let seen = seen_of(rt.alloc(), &given)?;
-        assert!(rt;
-            whole.text.as_str().starts_with(seen.text.as_str()),
-            "at {call}"
-        );
-        assert!(rt;
-            call < 16 || seen.text.as_str().starts_with(ROW),
-            "at {call}"
-        );
-        if call < 24 {
-            assert_eq!(rt; seen.status, 5, "at {call}");
-        } else if seen.status != 5 {
-            assert_eq!(rt; seen.status, 0, "at {call}");
-            assert_eq!(rt; seen.text.len(), whole.text.len(), "at {call}");
-        }
+        let calls = expect_faults(&rt, rt.alloc(), &given, (0, text.as_str()), "two reads")?;
+        // each byte that is read costs its part of a call
+        assert!(rt; least <= calls, "by {cut}");
     }
     Ok(())
 }
 
-// The second piece of a read can't be read, and the rows of the first were written before.
+// A long read is written piece by piece: where its last piece fails, the rows of the first are there.
 #[test]
 fn read_in_pieces(rt: HostRuntime) -> Result<(), Fail> {
-    let image = filled(rt.alloc(), "", (b'0', 8192), "")?;
+    let image = filled(rt.alloc(), "", (b'0', 12_288), "")?;
     let given = Given {
-        image: image.as_str(),
-        image_fails: &[1],
-        cut: 4096,
-        ..over_digits("read phys 0 8192")
+        image: image.as_bytes(),
+        ..over_digits("read phys 0 12288\n")
     };
-    let seen = seen_of(rt.alloc(), &given)?;
+    let mut whole = String::new(rt.alloc());
+    for row in 0..768u64 {
+        let at = 16 * row;
+        whole.push_str(format!(in rt.alloc(); "0x{at:016x}")?.as_str())?;
+        whole.push_str("  30 30 30 30 30 30 30 30 30 30 30 30 30 30 30 30  |0000000000000000|\n")?;
+    }
+    let text = whole.as_str();
+    let calls = expect_faults(&rt, rt.alloc(), &given, (0, text), "three pieces")?;
+    let image_fails = &[calls.saturating_sub(1)];
+    let seen = seen_of(
+        rt.alloc(),
+        &Given {
+            image_fails,
+            ..given
+        },
+    )?;
     assert_eq!(rt; seen.status, 5);
-    // 256 rows of 88 bytes
-    assert_eq!(rt; seen.text.len(), 22_528);
-    assert!(rt; seen.text.as_str().ends_with("|0000000000000000|\n"));
+    assert!(rt; text.starts_with(seen.text.as_str()));
+    assert_eq!(rt; seen.text.len() % 88, 0, "whole rows");
+    assert!(rt; seen.text.len() >= 22_528, "the rows of the first piece");
     Ok(())
 }
 
