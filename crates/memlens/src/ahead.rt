@@ -1,5 +1,5 @@
 //! Bytes that were read ahead, so that a read of one byte does not cost a call of the system.
-ghost use Rattle.std.specs.Prelude.{◌≤◌, length, IfOk};
+ghost use Rattle.std.specs.Prelude.{◌≡◌, ◌-◌, ◌≤◌, length, min, IfOk};
 
 use crate::calls::read_next;
 use std::io::{self, Read};
@@ -49,7 +49,7 @@ impl Ahead {
     }
 
     fn take(&mut self, buf: &mut [u8]) -> usize
-        ensures { result ≤ length buf.old }
+        ensures { result ≡ min (length buf.old) (self.old.end - self.old.start) }
     {
         let n = buf.len().min(self.end - self.start);
         buf[..n].copy_from_slice(&self.bytes[self.start..self.start + n]);
