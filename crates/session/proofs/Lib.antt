@@ -9,5 +9,4 @@ pub mod Cutting
 pub mod Cells
 pub mod Commands
 pub mod Numbers
-pub mod Rows
 pub mod Told

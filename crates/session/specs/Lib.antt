@@ -1,5 +1,4 @@
 pub mod Causes
-pub mod DumpRow
 pub mod Headline
 pub mod Line
 pub mod Lines

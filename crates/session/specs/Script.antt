@@ -2,7 +2,7 @@
 use Rattle.std.specs.Prelude.{ℕ, ◌+◌, Bool, nat_le, if◌then◌else◌, List, [], ◌++◌, length, take, codes, Result, Ok, Err}
 use Rattle.std.specs.List.{flat_map}
 use Rattle.layer_base.specs.AddressSpace.{AddressSpace, bytes_from}
-use Rattle.session.specs.DumpRow.{dump_text}
+use Rattle.hex_text.specs.DumpRow.{dump_text}
 use Rattle.session.specs.Line.{command_of}
 use Rattle.session.specs.Lines.{cut_lines, lines_of}
 use Rattle.session.specs.declared.line.Command.{Command}

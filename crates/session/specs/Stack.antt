@@ -11,7 +11,7 @@ use Rattle.layer_base.specs.declared.why.Rule.{Rule}
 use Rattle.layer_base.specs.declared.why.Rule.TheVariants as rules
 use Rattle.layer_base.specs.declared.why.Why.{Why}
 use Rattle.layer_base.specs.declared.why.Why.TheVariants.{NotThis, Taken, Bad, Device, Memory}
-use Rattle.session.specs.DumpRow.{address_cell}
+use Rattle.hex_text.specs.DumpRow.{address_cell}
 use Rattle.session.specs.declared.stack.Refusal.{Refusal}
 use Rattle.session.specs.declared.stack.StackFault.{StackFault}
 use Rattle.session.specs.declared.stack.StackFault.TheVariants as faults

@@ -2,7 +2,6 @@
 #![tactic(auto)]
 
 mod command;
-pub mod dump_row;
 mod ended;
 mod line;
 mod line_buffer;

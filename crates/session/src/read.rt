@@ -5,11 +5,11 @@ ghost use Rattle.layer_base.specs.Counts.{HasCause};
 ghost use Rattle.layer_base.specs.Known.{Writes};
 ghost use Rattle.layer_base.specs.SameLayer.{IsSameLayer};
 ghost use Rattle.layer_base.specs.View.{physical};
-ghost use Rattle.session.specs.DumpRow.{dump_text};
+ghost use Rattle.hex_text.specs.DumpRow.{dump_text};
 ghost use Rattle.session.specs.Read.{AddsCells, IsCountWithin};
 ghost use Rattle.session.specs.declared.read.TheConstants.{PIECE};
 
-use crate::dump_row::append_rows;
+use hex_text::append_rows;
 use crate::status::CommandFault;
 use layer_base::{DeviceFailed, Layer, Run, Sink, write_whole};
 use std::alloc::{AllocError, Global};

@@ -5,7 +5,7 @@ ghost use Rattle.layer_base.specs.Known.{Writes};
 ghost use Rattle.session.specs.Stack.{stack_of, KeepsOrAttaches, TriesAs, format_word, rule_word, refusal_text};
 
 use crate::command::write_text;
-use crate::dump_row::append_address;
+use hex_text::append_address;
 use crate::status::CommandFault;
 use layer_base::{Kind, Layer, Rule, Sink, Why};
 use std::alloc::{AllocError, Global};

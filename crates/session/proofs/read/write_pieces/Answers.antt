@@ -8,8 +8,8 @@ use Rattle.layer_base.specs.View.{physical}
 use Rattle.layer_base.proofs.Appending.{Appends-none, Appends-append, AppendsPrefix-behind, Writes-refused}
 use Rattle.layer_base.proofs.BytesFrom.{bytes_from-none}
 use Rattle.layer_base.proofs.Layers.{IsSameLayer-refl, IsSameLayer-trans}
-use Rattle.session.specs.DumpRow.{dump_text}
-use Rattle.session.proofs.Rows.{dump_text-none, dump_text-next, dump_text-front, whole-rows, whole-pieces}
+use Rattle.hex_text.specs.DumpRow.{dump_text}
+use Rattle.hex_text.proofs.DumpRows.{dump_text-none, dump_text-next, dump_text-front, whole-rows, whole-pieces}
 use Rattle.session.proofs.Told.{IfSome-always, IfSome-both}
 use Rattle.session.proofs.read.write_pieces.Goals as goal
 

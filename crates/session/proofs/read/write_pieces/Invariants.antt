@@ -4,7 +4,7 @@ use Rattle.std.specs.Io.KnownBytes.{Appends}
 use Rattle.layer_base.specs.AddressSpace.{bytes_from}
 use Rattle.layer_base.specs.SameLayer.{IsSameLayer}
 use Rattle.layer_base.specs.View.{physical}
-use Rattle.session.specs.DumpRow.{dump_text}
+use Rattle.hex_text.specs.DumpRow.{dump_text}
 use Rattle.session.proofs.read.write_pieces.Given as goal
 
 -- the rows of whole pieces were written, or all

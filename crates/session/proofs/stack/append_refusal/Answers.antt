@@ -1,6 +1,6 @@
 use Rattle.std.proofs.Common.{List, ℕ, ◌++◌, append_assoc, sym, ap}
 use Rattle.std.specs.Prelude.{codes}
-use Rattle.session.specs.DumpRow.{address_cell}
+use Rattle.hex_text.specs.DumpRow.{address_cell}
 use Rattle.session.specs.Stack.{format_word, rule_word, refusal_text}
 use Rattle.session.proofs.stack.append_refusal.Goals as goal
 

@@ -8,7 +8,7 @@ use Rattle.std.specs.Io.{StartsWith}
 use Rattle.layer_base.specs.AddressSpace.{AddressSpace, bytes_from}
 use Rattle.layer_base.proofs.Appending.{StartsWith-from, StartsWith-same}
 use Rattle.layer_base.proofs.BytesFrom.{bytes_from-add, length-bytes_from}
-use Rattle.session.specs.DumpRow.{hex_digit, hex_digits, dump_row, dump_rows, dump_text}
+use Rattle.hex_text.specs.DumpRow.{hex_digit, hex_digits, dump_row, dump_rows, dump_text}
 
 pub hex_digits-next : (digits done value : ℕ) → done < digits → hex_digits (digits - done) value ≡ hex_digit (value / 2 ^ (4 * (digits - 1 - done)) % 16) ∷ hex_digits (digits - (done + 1)) value
 hex_digits-next digits done value left =

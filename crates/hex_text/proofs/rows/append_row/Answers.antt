@@ -1,6 +1,6 @@
 use Rattle.std.proofs.Common.{append_assoc}
-use Rattle.session.specs.DumpRow.{dump_row}
-use Rattle.session.proofs.dump_row.append_row.Goals as goal
+use Rattle.hex_text.specs.DumpRow.{dump_row}
+use Rattle.hex_text.proofs.rows.append_row.Goals as goal
 
 pub returns : goal.returns
 unfolding dump_row

@@ -1,7 +1,7 @@
 use Rattle.std.proofs.Common.{inl, ◌++◌, length, refl, sym, ◌∙◌, ap, arith, append_assoc}
 use Rattle.std.proofs.lemmas.List.{append-nil}
-use Rattle.session.proofs.Rows.{dump_text-none, dump_text-more, whole-rows, whole-rows-next}
-use Rattle.session.proofs.dump_row.append_rows.Goals as goal
+use Rattle.hex_text.proofs.DumpRows.{dump_text-none, dump_text-more, whole-rows, whole-rows-next}
+use Rattle.hex_text.proofs.rows.append_rows.Goals as goal
 
 pub loop-start-init : goal.loop-start-init
 loop-start-init c = record {

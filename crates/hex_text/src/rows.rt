@@ -1,7 +1,7 @@
 //! The rows of a dump: an address, sixteen bytes in hexadecimal, and the bytes as characters.
 ghost use Rattle.std.specs.Prelude.{◌≡◌, ◌+◌, ◌^◌, ◌<◌, ◌≤◌, ◌∷◌, [], ◌++◌, map, length, codes, OnOk, IfOk};
 ghost use Rattle.std.specs.List.{flat_map};
-ghost use Rattle.session.specs.DumpRow.{hex_digit, hex_digits, address_cell, byte_cell, character, dump_row, dump_text};
+ghost use Rattle.hex_text.specs.DumpRow.{hex_digit, hex_digits, address_cell, byte_cell, character, dump_row, dump_text};
 
 use layer_base::Name;
 use std::alloc::{AllocError, Global};
@@ -30,7 +30,7 @@ fn append_hex(text: &mut Vec<u8>, digits: u32, value: u64) -> Result<(), AllocEr
 }
 
 /// Appends an address: `0x` and sixteen digits.
-pub(crate) fn append_address(text: &mut Vec<u8>, at: u64) -> Result<(), AllocError>
+pub fn append_address(text: &mut Vec<u8>, at: u64) -> Result<(), AllocError>
     ensures { OnOk result (text.new.items ≡ text.old.items ++ address_cell at) }
 {
     text.extend_from_slice(b"0x")?;
@@ -89,11 +89,7 @@ fn append_characters(text: &mut Vec<u8>, cells: &[Option<u8>]) -> Result<(), All
 }
 
 /// Appends the rows of the bytes from `at` on, each with its newline.
-pub(crate) fn append_rows(
-    text: &mut Vec<u8>,
-    at: u64,
-    cells: &[Option<u8>],
-) -> Result<(), AllocError>
+pub fn append_rows(text: &mut Vec<u8>, at: u64, cells: &[Option<u8>]) -> Result<(), AllocError>
     requires { at + length cells.now ≤ 2 ^ 64 }
     ensures { OnOk result (text.new.items ≡ text.old.items ++ dump_text at cells.now) }
 {

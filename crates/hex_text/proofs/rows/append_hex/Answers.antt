@@ -1,6 +1,6 @@
 use Rattle.std.proofs.Common.{◌++◌, sym, ◌∙◌, ap, append_assoc}
-use Rattle.session.proofs.Rows.{hex_digits-next}
-use Rattle.session.proofs.dump_row.append_hex.Goals as goal
+use Rattle.hex_text.proofs.DumpRows.{hex_digits-next}
+use Rattle.hex_text.proofs.rows.append_hex.Goals as goal
 
 pub loop-done-preserved : goal.loop-done-preserved
 loop-done-preserved c =

@@ -1,6 +1,6 @@
 use Rattle.std.proofs.Common.{◌≡◌, ℕ, ◌*◌, ◌-◌, ◌≤◌, ◌⊎◌, ◌++◌, length, take}
-use Rattle.session.specs.DumpRow.{dump_text}
-use Rattle.session.proofs.dump_row.append_rows.Given as goal
+use Rattle.hex_text.specs.DumpRow.{dump_text}
+use Rattle.hex_text.proofs.rows.append_rows.Given as goal
 
 -- whole rows were appended, or all
 abbrev pub invariant-loop-start : goal.invariant-loop-start

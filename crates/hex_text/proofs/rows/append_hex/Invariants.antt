@@ -1,6 +1,6 @@
 use Rattle.std.proofs.Common.{◌≡◌, ◌-◌, ◌++◌}
-use Rattle.session.specs.DumpRow.{hex_digits}
-use Rattle.session.proofs.dump_row.append_hex.Given as goal
+use Rattle.hex_text.specs.DumpRow.{hex_digits}
+use Rattle.hex_text.proofs.rows.append_hex.Given as goal
 
 -- the digits so far and those that are left are all digits
 abbrev pub invariant-loop-done : goal.invariant-loop-done

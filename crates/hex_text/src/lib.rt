@@ -1,0 +1,9 @@
+//! The texts of dumped bytes.
+#![tactic(auto)]
+
+mod rows;
+
+pub use rows::{append_address, append_rows, dump_row};
+
+#[cfg(test)]
+mod tests;
