@@ -1,5 +1,5 @@
 //! Bytes that were read ahead, so that a read of one byte does not cost a call of the system.
-ghost use Rattle.std.specs.Prelude.{◌≡◌, ◌-◌, ◌≤◌, length, min, IfOk};
+ghost use Rattle.std.specs.Prelude.{◌≡◌, ◌+◌, ◌-◌, ◌<◌, ◌≤◌, length, take, drop, min, Ok, IfOk};
 
 use crate::calls::read_next;
 use std::io::{self, Read};
@@ -28,7 +28,9 @@ impl Ahead {
     /// Gives the buffer what was read ahead, or, where nothing is left of it, makes one call. A buffer that is larger
     /// than the room here is filled by that call itself.
     pub fn read<F: Read>(&mut self, file: &mut F, buf: &mut [u8]) -> io::Result<usize>
-        ensures { IfOk result (λ n. n ≤ length buf.old) }
+        ensures within { IfOk result (λ n. n ≤ length buf.old) }
+        ensures ahead { self.old.start < self.old.end → result ≡ Ok (min (length buf.old) (self.old.end - self.old.start)) }
+        ensures bytes { self.old.start < self.old.end → IfOk result (λ n. take n buf.new ≡ take n (drop self.old.start self.old.bytes)) }
     {
         if self.start < self.end {
             return Ok(self.take(buf));
@@ -49,7 +51,10 @@ impl Ahead {
     }
 
     fn take(&mut self, buf: &mut [u8]) -> usize
-        ensures { result ≡ min (length buf.old) (self.old.end - self.old.start) }
+        ensures count { result ≡ min (length buf.old) (self.old.end - self.old.start) }
+        ensures bytes { take result buf.new ≡ take result (drop self.old.start self.old.bytes) }
+        ensures start { self.new.start ≡ self.old.start + result }
+        ensures end { self.new.end ≡ self.old.end }
     {
         let n = buf.len().min(self.end - self.start);
         buf[..n].copy_from_slice(&self.bytes[self.start..self.start + n]);
