@@ -31,6 +31,8 @@ impl Ahead {
         ensures within { IfOk result (λ n. n ≤ length buf.old) }
         ensures ahead { self.old.start < self.old.end → result ≡ Ok (min (length buf.old) (self.old.end - self.old.start)) }
         ensures bytes { self.old.start < self.old.end → IfOk result (λ n. take n buf.new ≡ take n (drop self.old.start self.old.bytes)) }
+        ensures start { self.old.start < self.old.end → IfOk result (λ n. self.new.start ≡ self.old.start + n) }
+        ensures filled { length buf.old < 8192 → IfOk result (λ n. n ≤ self.new.start) }
     {
         if self.start < self.end {
             return Ok(self.take(buf));
