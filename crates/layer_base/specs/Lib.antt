@@ -9,6 +9,7 @@ pub mod Ranges
 pub mod Reading
 pub mod Run
 pub mod SameLayer
+pub mod Space
 pub mod Stretch
 pub mod View
 pub mod Why

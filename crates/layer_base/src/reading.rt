@@ -55,8 +55,7 @@ pub fn run_of_reading<D: Device>(
 }
 
 /// How many bytes of a buffer of `length` serve for an address and `more` after it.
-fn room_within(more: u64, length: usize) -> usize
-    requires { 0 < length }
+pub fn room_within(more: u64, length: usize) -> usize
     ensures { result ≡ min (more + 1) length }
 {
     if more < length as u64 {

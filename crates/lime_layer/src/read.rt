@@ -7,7 +7,7 @@ ghost use Rattle.layer_base.specs.View.View.{File};
 ghost use Rattle.lime_layer.specs.Header.{bytes_of};
 
 use crate::header::{Header, LENGTH};
-use layer_base::{Device, Failed};
+use layer_base::{Device, Failed, room_within};
 
 /// The header at a place, in one call of the device where that gives it whole. There is none where no byte is present
 /// there.
@@ -42,7 +42,7 @@ fn fill<D: Device>(device: &mut D, place: u64, buf: &mut [u8]) -> Result<usize, 
     ensures same { D.held device.new ≡ D.held device.old }
     ensures cause { HasCause (D.faults device.old) (D.faults device.new) (IsErr result) }
 {
-    let room = room_at(place, buf.len());
+    let room = room_within(u64::MAX - place, buf.len());
     let mut done = 0;
     while done < room {
         let n = device.read_at(place + done as u64, &mut buf[done..room])?;
@@ -52,16 +52,4 @@ fn fill<D: Device>(device: &mut D, place: u64, buf: &mut [u8]) -> Result<usize, 
         done += n;
     }
     Ok(done)
-}
-
-/// How many of so many bytes have places from this one on.
-fn room_at(place: u64, length: usize) -> usize
-    ensures { result ≡ min length (2 ^ 64 - place) }
-{
-    let more = u64::MAX - place;
-    if more < length as u64 {
-        more as usize + 1
-    } else {
-        length
-    }
 }

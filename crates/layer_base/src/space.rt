@@ -1,0 +1,82 @@
+//! Spaces of addresses, and what a piece of one is mapped to.
+ghost use Rattle.std.specs.Prelude.{◌≡◌};
+ghost use Rattle.layer_base.specs.Space.{page_address, are_same_levels, is_same_space};
+ghost use Rattle.layer_base.specs.declared.space.Space.TheVariants.{Paged};
+
+/// How many levels of tables a paged space has, after the Intel SDM, volume 3, "Paging".
+#[derive(Clone, Copy, Debug, PartialEq, Eq)]
+pub enum Levels {
+    Four,
+    Five,
+}
+
+/// A space of addresses. Of a root the bits 51 to 12 alone count, so values that differ in its other bits are one space.
+#[derive(Clone, Copy, Debug)]
+pub enum Space {
+    /// Physical memory.
+    Phys,
+    /// What the tables from a root on map.
+    Paged { root: u64, levels: Levels },
+}
+
+/// The addresses from `first` to `last`, themselves included, are mapped to as many physical ones from `to` on, or to
+/// none.
+#[derive(Clone, Copy, Debug, PartialEq, Eq)]
+pub struct Mapped {
+    pub first: u64,
+    pub last: u64,
+    pub to: Option<u64>,
+}
+
+/// Physical addresses of tables and pages are below this.
+const FRAME_END: u64 = 1 << 52;
+
+const PAGE_SIZE: u64 = 1 << 12;
+
+/// The address of the table in a root: its bits 51 to 12.
+fn page_address(root: u64) -> u64
+    ensures { result ≡ page_address root }
+{
+    root % FRAME_END / PAGE_SIZE * PAGE_SIZE
+}
+
+fn are_same_levels(levels: Levels, other: Levels) -> bool
+    ensures { result ≡ are_same_levels levels other }
+{
+    matches!(
+        (levels, other),
+        (Levels::Four, Levels::Four) | (Levels::Five, Levels::Five)
+    )
+}
+
+impl Space {
+    /// The space of a root, whose other bits than 51 to 12 are cleared.
+    pub fn paged(root: u64, levels: Levels) -> Space
+        ensures { result ≡ Paged (page_address root) levels }
+    {
+        Space::Paged {
+            root: page_address(root),
+            levels,
+        }
+    }
+
+    /// Whether the two are one space.
+    pub fn is_same(self, other: Space) -> bool
+        ensures { result ≡ is_same_space self other }
+    {
+        match (self, other) {
+            (Space::Phys, Space::Phys) => true,
+            (
+                Space::Paged { root, levels },
+                Space::Paged {
+                    root: other_root,
+                    levels: other_levels,
+                },
+            ) => {
+                page_address(root) == page_address(other_root)
+                    && are_same_levels(levels, other_levels)
+            }
+            _ => false,
+        }
+    }
+}
