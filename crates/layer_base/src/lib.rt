@@ -20,7 +20,7 @@ mod why;
 pub use device::{Device, Failed};
 pub use layer::{DeviceFailed, Kind, Layer, Run};
 pub use memory::{MemDevice, MemSink, MemSource};
-pub use name::Name;
+pub use name::{Bytes, Name};
 pub use path_word::PathWord;
 pub use reading::{Reading, room_within, run_of_reading};
 pub use segment::Segment;

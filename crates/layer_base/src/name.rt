@@ -52,3 +52,6 @@ impl From<Vec<u8>> for Name {
         Name { bytes }
     }
 }
+
+/// Bytes that are no name: a constant's data, an image in memory.
+pub type Bytes = Name;
