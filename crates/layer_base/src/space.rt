@@ -1,6 +1,6 @@
 //! Spaces of addresses, and what a piece of one is mapped to.
-ghost use Rattle.std.specs.Prelude.{◌≡◌};
-ghost use Rattle.layer_base.specs.Space.{page_address, are_same_levels, is_same_space};
+ghost use Rattle.std.specs.Prelude.{◌≡◌, ◌<◌};
+ghost use Rattle.layer_base.specs.Space.{frame_of, page_address, are_same_levels, is_same_space};
 ghost use Rattle.layer_base.specs.declared.space.Space.TheVariants.{Paged};
 
 /// How many levels of tables a paged space has, after the Intel SDM, volume 3, "Paging".
@@ -33,11 +33,20 @@ const FRAME_END: u64 = 1 << 52;
 
 const PAGE_SIZE: u64 = 1 << 12;
 
-/// The address of the table in a root: its bits 51 to 12.
-fn page_address(root: u64) -> u64
-    ensures { result ≡ page_address root }
+/// The physical address of a block of a size in a root or an entry of a table: its bits below bit 52, and zeros where
+/// they are within the block.
+pub fn frame_of(size: u64, entry: u64) -> u64
+    requires { 0 < size }
+    ensures { result ≡ frame_of size entry }
 {
-    root % FRAME_END / PAGE_SIZE * PAGE_SIZE
+    entry % FRAME_END / size * size
+}
+
+/// The address of a page in a root or an entry of a table: its bits 51 to 12.
+pub fn page_address(entry: u64) -> u64
+    ensures { result ≡ page_address entry }
+{
+    frame_of(PAGE_SIZE, entry)
 }
 
 fn are_same_levels(levels: Levels, other: Levels) -> bool

@@ -1,0 +1,5 @@
+pub mod Block
+pub mod Entry
+pub mod Paging
+pub mod Walk
+pub mod Word

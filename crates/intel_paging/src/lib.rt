@@ -1,0 +1,7 @@
+//! 4-level and 5-level paging as in the Intel SDM, volume 3, "Paging": from an address of a space to physical memory,
+//! one table after another.
+#![tactic(auto)]
+
+mod tables;
+
+pub use tables::walk;
