@@ -97,5 +97,5 @@ module _ (memory : AddressSpace) (at : ℕ) where
   dump_text-front done len (inr all) within = rw all (StartsWith-same (dump_text at (bytes_from memory at len)))
 
 -- a piece behind whole pieces, or at the end
-pub whole-pieces : (rows done n len : ℕ) → done ≡ 16 * rows → n ≡ min (len - done) 4096 → done < len → ((more : ℕ) × (done + n ≡ 16 * more)) ⊎ (done + n ≡ len)
-whole-pieces rows done n len whole next before = ⊎_elim (λ short. inr (omega (arith, short))) (λ fits. inl (rows + 256, omega (arith, fits))) (cases_lt len (done + 4096))
+pub whole-pieces : (rows done n len most : ℕ) → done ≡ 16 * rows → n ≡ min (len - done) (16 * most) → done < len → ((more : ℕ) × (done + n ≡ 16 * more)) ⊎ (done + n ≡ len)
+whole-pieces rows done n len most whole next before = ⊎_elim (λ short. inr (omega (arith, short))) (λ fits. inl (rows + most, omega (arith, fits))) (cases_lt len (done + 16 * most))

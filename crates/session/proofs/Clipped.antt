@@ -5,17 +5,14 @@ use Rattle.std.proofs.lemmas.Bool.Decides.{nat_tests}
 use Rattle.std.proofs.lemmas.List.{take_all, take_at, take-append-le}
 use Rattle.std.specs.Prelude.{Err}
 use Rattle.layer_base.specs.AddressSpace.{AddressSpace}
-use Rattle.session.specs.Line.{command_of, command_of_words, words_of}
-use Rattle.session.specs.Script.{line_text, text_of}
+use Rattle.command_words.specs.Line.{command_of}
+use Rattle.command_words.specs.declared.fault.LineFault.TheVariants.{TooLong}
+use Rattle.session.specs.Script.{line_text, text_of, ends_script, is_quit}
 use Rattle.session.specs.Turn.{rest_text}
-use Rattle.session.specs.declared.line.LineFault.TheVariants.{TooLong}
 use Rattle.session.specs.declared.line_buffer.TheConstants.{LINE_ROOM}
 
 too_long : (line : List ℕ) → 4096 < length line → command_of line ≡ Err TooLong
-too_long line long = chosen (ltb 4096 (length line)) (grind (arith, nat_tests))
-  where
-    chosen : (b : Bool) → b ≡ true → cond b (Err TooLong) (command_of_words (words_of line)) ≡ Err TooLong
-    chosen b is = rw is refl
+too_long line long = let longer : ltb 4096 (length line) ≡ true = grind (arith, nat_tests) in rw longer refl
 
 command_of-clipped : (line : List ℕ) → command_of (take LINE_ROOM line) ≡ command_of line
 command_of-clipped line = ⊎_elim
@@ -24,6 +21,9 @@ command_of-clipped line = ⊎_elim
 
 pub line_text-clipped : (memory : AddressSpace) (line : List ℕ) → line_text memory (take LINE_ROOM line) ≡ line_text memory line
 line_text-clipped memory line = ap (text_of memory) (command_of-clipped line)
+
+pub is_quit-clipped : (line : List ℕ) → is_quit (take LINE_ROOM line) ≡ is_quit line
+is_quit-clipped line = ap ends_script (command_of-clipped line)
 
 pub rest_text-clipped : (memory : AddressSpace) (line : List ℕ) → rest_text memory (take LINE_ROOM line) ≡ rest_text memory line
 rest_text-clipped memory [] = refl

@@ -1,5 +1,6 @@
 -- How the cut into lines goes on with one byte more.
-use Rattle.std.proofs.Common.{◌≡◌, ℕ, Bool, true, false, cond, eqb, List, [], ◌∷◌, ◌++◌, refl, sym, ◌∙◌, ap}
+use Rattle.std.proofs.Common.{◌≡◌, ℕ, Bool, true, false, cond, eqb, List, [], ◌∷◌, ◌++◌, refl, sym, ◌∙◌, ap, arith}
+use Rattle.std.proofs.lemmas.Bool.Decides.{nat_tests}
 use Rattle.session.specs.Lines.{Lines, onto_front, cut_lines}
 
 -- the cut after one byte more, by whether it is a newline
@@ -29,3 +30,50 @@ cut-push (first ∷ bytes) byte =
     cut-cons first (bytes ++ byte ∷ []) ∙ ap (fronted (eqb first 10) first) (cut-push bytes byte)
     ∙ both-ends (eqb first 10) (eqb byte 10) first byte (cut_lines bytes).whole (cut_lines bytes).rest
     ∙ ap (pushed (eqb byte 10) byte) (sym (cut-cons first bytes))
+
+-- ---- two texts cut as one
+
+-- lines with their newlines
+abbrev pub ended : List (List ℕ) → List ℕ
+ended [] = []
+ended (line ∷ lines) = line ++ 10 ∷ ended lines
+
+-- a cut loses nothing
+pub cut-joined : (bytes : List ℕ) → ended (cut_lines bytes).whole ++ (cut_lines bytes).rest ≡ bytes
+cut-joined [] = refl
+cut-joined (byte ∷ bytes) = ap joined (cut-cons byte bytes) ∙ at_byte (eqb byte 10) refl (cut_lines bytes).whole (cut_lines bytes).rest (cut-joined bytes)
+  where
+    joined : Lines → List ℕ
+    joined lines = ended lines.whole ++ lines.rest
+
+    at_byte : (newline : Bool) → eqb byte 10 ≡ newline → (whole : List (List ℕ)) (rest : List ℕ) → ended whole ++ rest ≡ bytes → joined (fronted newline byte (record { whole = whole; rest = rest })) ≡ byte ∷ bytes
+    at_byte true is whole rest so_far = let ten : byte ≡ 10 = grind (arith, nat_tests) in ap (λ (l : List ℕ). 10 ∷ l) so_far ∙ ap (λ b. b ∷ bytes) (sym ten)
+    at_byte false is [] rest so_far = ap (λ (l : List ℕ). byte ∷ l) so_far
+    at_byte false is (line ∷ lines) rest so_far = ap (λ (l : List ℕ). byte ∷ l) so_far
+
+-- the lines of a text, and behind them those of another
+abbrev pub joined_at : List (List ℕ) → List ℕ → List (List ℕ) → List ℕ → Lines
+joined_at whole rest [] rest' = record { whole = whole; rest = rest ++ rest' }
+joined_at whole rest (line ∷ lines) rest' = record { whole = whole ++ (rest ++ line) ∷ lines; rest = rest' }
+
+pub cut-append : (front back : List ℕ) → cut_lines (front ++ back) ≡ joined_at (cut_lines front).whole (cut_lines front).rest (cut_lines back).whole (cut_lines back).rest
+cut-append [] back = by_lines (cut_lines back).whole (cut_lines back).rest
+  where
+    by_lines : (whole : List (List ℕ)) (rest : List ℕ) → record { whole = whole; rest = rest } ≡ joined_at [] [] whole rest
+    by_lines [] rest = refl
+    by_lines (line ∷ lines) rest = refl
+cut-append (byte ∷ front) back =
+    cut-cons byte (front ++ back) ∙ ap (fronted (eqb byte 10) byte) (cut-append front back)
+    ∙ by_byte (eqb byte 10) (cut_lines front).whole (cut_lines front).rest (cut_lines back).whole (cut_lines back).rest
+    ∙ ap (λ lines. joined_at lines.whole lines.rest (cut_lines back).whole (cut_lines back).rest) (sym (cut-cons byte front))
+  where
+    after : Lines → List (List ℕ) → List ℕ → Lines
+    after lines whole rest = joined_at lines.whole lines.rest whole rest
+
+    by_byte : (newline : Bool) (whole : List (List ℕ)) (rest : List ℕ) (whole' : List (List ℕ)) (rest' : List ℕ) → fronted newline byte (joined_at whole rest whole' rest') ≡ after (fronted newline byte (record { whole = whole; rest = rest })) whole' rest'
+    by_byte true whole rest [] rest' = refl
+    by_byte true whole rest (line ∷ lines) rest' = refl
+    by_byte false [] rest [] rest' = refl
+    by_byte false [] rest (line ∷ lines) rest' = refl
+    by_byte false (first ∷ whole) rest [] rest' = refl
+    by_byte false (first ∷ whole) rest (line ∷ lines) rest' = refl

@@ -1,4 +1,5 @@
 pub mod Projections
+pub mod Quits
 pub mod Refusals
 pub mod Ending
 pub mod Whole
@@ -7,6 +8,5 @@ pub mod Clipped
 pub mod Texts
 pub mod Cutting
 pub mod Cells
-pub mod Commands
-pub mod Numbers
 pub mod Told
+pub mod Memories

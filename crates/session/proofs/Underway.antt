@@ -1,22 +1,28 @@
 -- A script that is being run.
-use Rattle.std.proofs.Common.{◌≡◌, ℕ, ◌+◌, List, [], ◌∷◌, ◌++◌, length, take, Option, None, Some, refl, sym, subst, ◌∙◌, ap, arith, append_assoc}
+use Rattle.std.proofs.Common.{◌≡◌, ℕ, ◌+◌, Bool, true, false, cond, eqb, List, [], ◌∷◌, ◌++◌, length, take, Option, None, Some, refl, sym, subst, ◌∙◌, ap, arith, append_assoc}
 use Rattle.std.proofs.lemmas.List.{append-nil, length_push}
 use Rattle.std.specs.Io.KnownBytes.{Appends, Consumes, IsAtEnd, Keeps}
 use Rattle.layer_base.specs.AddressSpace.{AddressSpace}
 use Rattle.layer_base.proofs.Appending.{Appends-none, Appends-append}
-use Rattle.session.specs.Lines.{cut_lines}
-use Rattle.session.specs.Script.{texts_of}
-use Rattle.session.specs.Turn.{turn_text, turn_line}
+use Rattle.session.specs.Lines.{Lines, cut_lines}
+use Rattle.session.specs.Script.{texts_of, is_quit}
+use Rattle.session.specs.Turn.{turn_text, turn_line, turn_flow, flow_by, flow_after}
+use Rattle.session.specs.declared.command.Flow.TheVariants.{NextLine}
 use Rattle.session.specs.declared.line_buffer.TheConstants.{LINE_ROOM}
+use Rattle.session.proofs.Clipped.{is_quit-clipped}
+use Rattle.session.proofs.Cutting.{pushed, cut-push}
+use Rattle.session.proofs.Quits.{NoneQuits, NoneQuits-push}
 use Rattle.session.proofs.Texts.{texts-push, rest-push}
 
--- so many bytes were given, the lines that they end were run, and the line that they began is kept
+-- so many bytes were given, the lines that they end were run, none of which was a `quit`, and the line that they began
+-- is kept
 pub record Underway (memory : AddressSpace) (script : List ℕ) (left out out' : Option (List ℕ)) (line : List ℕ) (count : ℕ) : Type 0 where
   pub given : List ℕ
   pub count_is : length given ≡ count
   pub taken : Consumes (Some script) left given
   pub written : Appends out out' (texts_of memory (cut_lines given).whole)
   pub line_is : line ≡ take LINE_ROOM (cut_lines given).rest
+  pub no_quit : NoneQuits (cut_lines given).whole
 
 pub Consumes-append : (script : List ℕ) (left left' : Option (List ℕ)) (given more : List ℕ) → Consumes (Some script) left given → Consumes left left' more → Consumes (Some script) left' (given ++ more)
 Consumes-append script None left' given more first second = absurd first
@@ -38,13 +44,29 @@ pub Consumes-all : (script : List ℕ) (left : Option (List ℕ)) (given : List 
 Consumes-all script None given taken end = absurd taken
 Consumes-all script (Some more) given taken end = sym (taken ∙ ap (λ (l : List ℕ). given ++ l) end ∙ append-nil given)
 
+goes_on : (quits : Bool) → NextLine ≡ flow_by quits → quits ≡ false
+goes_on true is = absurd (cc)
+goes_on false is = refl
+
+-- one byte more after which the script goes on
+none-push : (given : List ℕ) (byte : ℕ) → NoneQuits (cut_lines given).whole → NextLine ≡ turn_flow (take LINE_ROOM (cut_lines given).rest) byte → NoneQuits (cut_lines (given ++ byte ∷ [])).whole
+none-push given byte none flow = subst (λ lines. NoneQuits lines.whole) (sym (cut-push given byte)) (at_byte (eqb byte 10) flow)
+  where
+    lines : Lines
+    lines = cut_lines given
+
+    at_byte : (newline : Bool) → NextLine ≡ cond newline (flow_after (take LINE_ROOM lines.rest)) NextLine → NoneQuits (pushed newline byte lines).whole
+    at_byte true is = NoneQuits-push lines.whole lines.rest none (sym (is_quit-clipped lines.rest) ∙ goes_on (is_quit (take LINE_ROOM lines.rest)) is)
+    at_byte false is = none
+
 module _ (memory : AddressSpace) (script : List ℕ) where
   pub Underway-start : (out : Option (List ℕ)) → Underway memory script (Some script) out out [] 0
-  Underway-start out = record { given = []; count_is = refl; taken = refl; written = Appends-none out; line_is = refl }
+  Underway-start out = record { given = []; count_is = refl; taken = refl; written = Appends-none out; line_is = refl; no_quit = tt }
 
   pub Underway-next : (left left' out out' out'' : Option (List ℕ)) (line line' : List ℕ) (count byte : ℕ)
-      → Underway memory script left out out' line count → Consumes left left' (byte ∷ []) → Appends out' out'' (turn_text memory line byte) → line' ≡ turn_line line byte → Underway memory script left' out out'' line' (count + 1)
-  Underway-next left left' out out' out'' line line' count byte before taken written next =
+      → Underway memory script left out out' line count → Consumes left left' (byte ∷ []) → Appends out' out'' (turn_text memory line byte) → line' ≡ turn_line line byte → NextLine ≡ turn_flow line byte
+      → Underway memory script left' out out'' line' (count + 1)
+  Underway-next left left' out out' out'' line line' count byte before taken written next flow =
       let given = before.given in
       record {
         given = given ++ byte ∷ [];
@@ -54,4 +76,5 @@ module _ (memory : AddressSpace) (script : List ℕ) where
             Appends-append out out' out'' (texts_of memory (cut_lines given).whole) (turn_text memory line byte) before.written written
             );
         line_is = next ∙ ap (λ l. turn_line l byte) before.line_is ∙ sym (rest-push given byte);
+        no_quit = none-push given byte before.no_quit (flow ∙ ap (λ l. turn_flow l byte) before.line_is);
       }

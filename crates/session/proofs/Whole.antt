@@ -7,7 +7,7 @@ use Rattle.std.proofs.Math.Seq.{take-append-add}
 use Rattle.layer_base.specs.AddressSpace.{AddressSpace}
 use Rattle.layer_base.proofs.Appending.{StartsWith-from, StartsWith-trans}
 use Rattle.session.specs.Lines.{cut_lines}
-use Rattle.session.specs.Run.{script_run}
+use Rattle.session.specs.Run.{bytes_run}
 use Rattle.session.specs.Script.{is_short, script_text, script_taken, texts_of}
 use Rattle.session.specs.Turn.{rest_text}
 use Rattle.session.specs.declared.script.TheConstants.{MAX_SCRIPT}
@@ -40,10 +40,10 @@ module _ (memory : AddressSpace) (script : List ℕ) where
   unfolding script_taken
   taken-long long = rw long refl
 
-  pub status-short : is_short script ≡ true → (script_run memory script).status ≡ status.Ok
+  pub status-short : is_short script ≡ true → (bytes_run memory script).status ≡ status.Ok
   status-short short = rw short refl
 
-  pub status-long : is_short script ≡ false → (script_run memory script).status ≡ status.ScriptTooLong
+  pub status-long : is_short script ≡ false → (bytes_run memory script).status ≡ status.ScriptTooLong
   status-long long = rw long refl
 
 -- a front of a script that is read

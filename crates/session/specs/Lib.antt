@@ -1,6 +1,7 @@
 pub mod Causes
+pub mod Command
+pub mod Fault
 pub mod Headline
-pub mod Line
 pub mod Lines
 pub mod Ran
 pub mod Read

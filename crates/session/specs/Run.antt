@@ -3,7 +3,7 @@ use Rattle.std.specs.Prelude.{ℕ, if◌then◌else◌, List, [], codes, Result,
 use Rattle.layer_base.specs.AddressSpace.{AddressSpace}
 use Rattle.layer_base.specs.View.{View, physical}
 use Rattle.layer_base.specs.declared.layer.Kind.{Kind}
-use Rattle.session.specs.Script.{is_short, script_text, script_taken}
+use Rattle.session.specs.Script.{is_short, script_text, script_taken, through_quit}
 use Rattle.session.specs.Stack.{Shown, as_file, stack_of, attached, refusal_text}
 use Rattle.session.specs.Words.{are_accepted}
 use Rattle.session.specs.declared.stack.Refusal.{Refusal}
@@ -27,14 +27,19 @@ refused = record {
   script_taken = [];
 }
 
-abbrev pub script_run : AddressSpace → List ℕ → Outcome
-script_run memory script = record {
-  status = if is_short script then status.Ok else status.ScriptTooLong;
-  text = script_text memory script;
+-- what bytes of a script come to of which none follow a `quit`
+abbrev pub bytes_run : AddressSpace → List ℕ → Outcome
+bytes_run memory bytes = record {
+  status = if is_short bytes then status.Ok else status.ScriptTooLong;
+  text = script_text memory bytes;
   dumped = [];
   symbols_taken = [];
-  script_taken = script_taken script;
+  script_taken = script_taken bytes;
 }
+
+-- a script is run through its first `quit`; the bytes behind it are neither looked at nor taken
+abbrev pub script_run : AddressSpace → List ℕ → Outcome
+script_run memory script = bytes_run memory (through_quit script)
 
 -- nothing is taken of the symbol file and of the script
 abbrev pub image_refused : Refusal → Outcome

@@ -1,8 +1,11 @@
 -- What one byte more of a script does.
-use Rattle.std.specs.Prelude.{ℕ, ◌==◌, if◌then◌else◌, List, [], ◌∷◌, ◌++◌, take}
+use Rattle.std.specs.Prelude.{ℕ, ◌==◌, Bool, true, false, if◌then◌else◌, List, [], ◌∷◌, ◌++◌, take, Ok}
 use Rattle.layer_base.specs.AddressSpace.{AddressSpace}
 use Rattle.session.specs.Lines.{unless_empty}
-use Rattle.session.specs.Script.{line_text, texts_of}
+use Rattle.command_words.specs.declared.command.Command.{Command}
+use Rattle.session.specs.Script.{line_text, texts_of, ends_script, is_quit}
+use Rattle.session.specs.declared.command.Flow.{Flow}
+use Rattle.session.specs.declared.command.Flow.TheVariants.{NextLine, Quit}
 use Rattle.session.specs.declared.line_buffer.TheConstants.{LINE_ROOM}
 
 -- a newline runs the line
@@ -12,6 +15,21 @@ turn_text memory line byte = if byte == 10 then line_text memory line else []
 -- the line after it
 abbrev pub turn_line : List ℕ → ℕ → List ℕ
 turn_line line byte = if byte == 10 then [] else take LINE_ROOM (line ++ byte ∷ [])
+
+abbrev pub flow_by : Bool → Flow
+flow_by true = Quit
+flow_by false = NextLine
+
+-- `quit` ends the script
+abbrev pub flow_of : Command → Flow
+flow_of command = flow_by (ends_script (Ok command))
+
+abbrev pub flow_after : List ℕ → Flow
+flow_after line = flow_by (is_quit line)
+
+-- whether the script goes on behind it
+abbrev pub turn_flow : List ℕ → ℕ → Flow
+turn_flow line byte = if byte == 10 then flow_after line else NextLine
 
 -- the end of a script runs the line that lacks its newline
 abbrev pub rest_text : AddressSpace → List ℕ → List ℕ

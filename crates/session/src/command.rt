@@ -1,37 +1,142 @@
 //! Running one line.
-ghost use Rattle.std.specs.Prelude.{◌≡◌, IsErrOf, IfSome};
+ghost use Rattle.std.specs.Prelude.{◌≡◌, string_bytes, IsErrOf, IfOk, IfSome};
 ghost use Rattle.layer_base.specs.Counts.{HasCause};
 ghost use Rattle.layer_base.specs.Known.{Writes};
-ghost use Rattle.layer_base.specs.SameLayer.{IsSameLayer};
 ghost use Rattle.layer_base.specs.View.{physical};
+ghost use Rattle.space_memory.specs.State.{IsSameMemory};
+ghost use Rattle.command_words.specs.Limits.{KeepsLimits};
+ghost use Rattle.session.specs.Command.{command_text};
+ghost use Rattle.session.specs.Fault.{wanted_text, unknown_text, fault_text};
 ghost use Rattle.session.specs.Script.{line_text};
+ghost use Rattle.session.specs.Turn.{flow_of, flow_after};
 
-use crate::line::{Command, LineFault, parse_line};
-use crate::read::write_dump;
+use crate::place::place_of;
+use crate::read::{Page, write_read};
 use crate::status::CommandFault;
-use layer_base::{Layer, Sink, write_whole};
-use std::alloc::Global;
+use crate::translate::write_translation;
+use command_words::{Command, LineFault, parse_line};
+use layer_base::{Layer, Sink, Steps, write_whole};
+use space_memory::Memory;
+use std::alloc::{AllocError, Global};
+use std::sync::ledger::Ledger;
 
-/// Writes what a line's command prints.
-pub(crate) fn run_line<Y: Layer, O: Sink>(
+/// Whether a script goes on behind a line.
+#[derive(Clone, Copy, Debug, PartialEq, Eq)]
+pub(crate) enum Flow {
+    NextLine,
+    Quit,
+}
+
+fn flow_of(command: &Command) -> Flow
+    ensures { result ≡ flow_of command.now }
+{
+    match command {
+        Command::Quit => Flow::Quit,
+        _ => Flow::NextLine,
+    }
+}
+
+/// Writes what a line prints, and answers whether the script goes on.
+pub(crate) fn run_line<Y: Layer, O: Sink, L: Ledger>(
     alloc: Global,
-    image: &mut Y,
+    memory: &mut Memory<Y>,
+    page: &mut Page,
     line: &[u8],
     out: &mut O,
-) -> Result<(), CommandFault>
-    ensures text { IfSome (Y.view image.old) (λ view.
+    steps: &mut Steps<L>,
+) -> Result<Flow, CommandFault>
+    ensures text { IfSome memory.old.view (λ view.
         Writes (O.written out.old) (O.written out.new) result (line_text (physical view) line.now)) }
-    ensures layer { IsSameLayer Y.view Y.kind Y.faults Y.calls image.old image.new }
-    ensures image { HasCause (Y.faults image.old) (Y.faults image.new) (IsErrOf result CommandFault.Image) }
+    ensures flow { IfOk result (λ flow. flow ≡ flow_after line.now) }
+    ensures memory { IsSameMemory memory.old memory.new }
+    ensures image { HasCause memory.old.faults memory.new.faults (IsErrOf result CommandFault.Image) }
     ensures out { HasCause (O.faults out.old) (O.faults out.new) (IsErrOf result CommandFault.Out) }
 {
     match parse_line(alloc, line) {
-        Ok(Command::Nothing) => Ok(()),
-        Ok(Command::Read { at, len }) => write_dump(alloc, image, at, len, out),
-        Err(LineFault::TooLong) => write_text(out, b"error: line too long\n"),
-        Err(LineFault::Unknown) => write_text(out, b"error: unknown command\n"),
+        Ok(command) => {
+            run_command(alloc, memory, page, &command, out, steps)?;
+            Ok(flow_of(&command))
+        }
         Err(LineFault::Memory) => Err(CommandFault::Memory),
+        Err(fault) => {
+            write_fault(alloc, fault, out)?;
+            Ok(Flow::NextLine)
+        }
     }
+}
+
+// Writes what a command prints.
+fn run_command<Y: Layer, O: Sink, L: Ledger>(
+    alloc: Global,
+    memory: &mut Memory<Y>,
+    page: &mut Page,
+    command: &Command,
+    out: &mut O,
+    steps: &mut Steps<L>,
+) -> Result<(), CommandFault>
+    requires { KeepsLimits command.now }
+    ensures text { IfSome memory.old.view (λ view.
+        Writes (O.written out.old) (O.written out.new) result (command_text (physical view) command.now)) }
+    ensures memory { IsSameMemory memory.old memory.new }
+    ensures image { HasCause memory.old.faults memory.new.faults (IsErrOf result CommandFault.Image) }
+    ensures out { HasCause (O.faults out.old) (O.faults out.new) (IsErrOf result CommandFault.Out) }
+{
+    match command {
+        Command::Nothing | Command::Quit => Ok(()),
+        Command::Read { space, at, len } => match place_of(*space, at) {
+            Some(place) => write_read(memory, page, place, *len, out, steps),
+            None => write_unknown(out),
+        },
+        Command::Translate { space, at } => match place_of(*space, at) {
+            Some(place) => write_translation(alloc, memory, place, out, steps),
+            None => write_unknown(out),
+        },
+        _ => write_unknown(out),
+    }
+}
+
+// Writes the error line of a line that is no command.
+fn write_fault<O: Sink>(alloc: Global, fault: LineFault, out: &mut O) -> Result<(), CommandFault>
+    ensures text { Writes (O.written out.old) (O.written out.new) result (fault_text fault) }
+    ensures out { HasCause (O.faults out.old) (O.faults out.new) (IsErrOf result CommandFault.Out) }
+    ensures image { IsErrOf result CommandFault.Image → ⊥ }
+{
+    match fault {
+        LineFault::TooLong => write_text(out, b"error: line too long\n"),
+        LineFault::Unknown => write_unknown(out),
+        LineFault::Words { wanted } => write_wanted(alloc, wanted, out),
+        LineFault::SpaceName => write_text(out, b"error: bad space\n"),
+        LineFault::Number => write_text(out, b"error: bad number\n"),
+        LineFault::Hex => write_text(out, b"error: bad hex\n"),
+        LineFault::Range => write_text(out, b"error: out of range\n"),
+        LineFault::Memory => Err(CommandFault::Memory),
+    }
+}
+
+// The error line of a command that wants another number of words.
+#[tactic(auto, unfolding(crate::specs::Fault::wanted_text))]
+fn wanted_line(alloc: Global, wanted: u32) -> Result<String, AllocError>
+    ensures { IfOk result (λ line. string_bytes line ≡ wanted_text wanted) }
+{
+    format!(in alloc; "error: wanted {wanted} words\n")
+}
+
+fn write_wanted<O: Sink>(alloc: Global, wanted: u32, out: &mut O) -> Result<(), CommandFault>
+    ensures text { Writes (O.written out.old) (O.written out.new) result (wanted_text wanted) }
+    ensures out { HasCause (O.faults out.old) (O.faults out.new) (IsErrOf result CommandFault.Out) }
+    ensures image { IsErrOf result CommandFault.Image → ⊥ }
+{
+    let line = wanted_line(alloc, wanted)?;
+    write_text(out, line.as_bytes())
+}
+
+// Writes the error line of a line that is no command, or none that runs yet.
+fn write_unknown<O: Sink>(out: &mut O) -> Result<(), CommandFault>
+    ensures text { Writes (O.written out.old) (O.written out.new) result unknown_text }
+    ensures out { HasCause (O.faults out.old) (O.faults out.new) (IsErrOf result CommandFault.Out) }
+    ensures image { IsErrOf result CommandFault.Image → ⊥ }
+{
+    write_text(out, b"error: unknown command\n")
 }
 
 /// Writes a line of its own.

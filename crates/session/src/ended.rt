@@ -3,21 +3,24 @@ ghost use Rattle.std.specs.Prelude.{◌≡◌, ℕ, ◌≤◌, ◌⊎◌, List, 
 ghost use Rattle.std.specs.Io.KnownBytes.{Appends, Consumes};
 ghost use Rattle.layer_base.specs.Counts.{HasCause};
 ghost use Rattle.layer_base.specs.Known.{AppendsPrefix};
+ghost use Rattle.layer_base.specs.SameLayer.{IsSameLayer};
 ghost use Rattle.layer_base.specs.View.{physical};
 ghost use Rattle.session.specs.Causes.{NothingFailed};
 ghost use Rattle.session.specs.Headline.{WhereTold, GavePrefix, HasWholeLines};
 ghost use Rattle.session.specs.Ran.{IsScriptEnd, RanOver};
-ghost use Rattle.session.specs.Run.{run_of, stack_run, shown_of};
+ghost use Rattle.session.specs.Run.{run_of, script_run, stack_run, shown_of};
 ghost use Rattle.session.specs.Stack.{stack_of, attached, attached_view, KeepsOrAttaches, Shows};
 ghost use Rattle.session.specs.Status.{IsAnswer};
 
 use crate::Status;
 use crate::command::write_text;
+use crate::read::Page;
 use crate::script::run_script;
 use crate::stack::{StackFault, attach_formats, write_refusal};
 use crate::status::status_after;
 use crate::words::are_accepted;
 use layer_base::{Kind, Layer, Sink, Source, Steps};
+use space_memory::Memory;
 use std::alloc::Global;
 use std::sync::ledger::Ledger;
 
@@ -28,45 +31,79 @@ pub struct Ended {
     pub layer: Box<dyn Layer>,
 }
 
+/// How many runs of pages a memory may keep.
+const KEPT_RUNS: usize = 4096;
+
 const USAGE: &[u8] = b"usage: memlens IMAGE SYMBOLS [DUMP] [--cache N] [--chunk N]\n";
 
-// Tries the formats on the image, and runs the script over what it shows then.
-fn run_image<Y: Layer, S: Source, O: Sink>(
+// Runs the script over what the image shows.
+fn run_memory<Y: Layer, S: Source, O: Sink, L: Ledger>(
     alloc: Global,
-    image: &mut Y,
+    image: Y,
+    script: &mut S,
+    out: &mut O,
+    steps: &mut Steps<L>,
+) -> (Status, Y)
+    ensures ran { IfSome (Y.view image) (λ view. IfSome (S.left script.old) (λ bytes.
+        RanOver (physical view) (script_run (physical view) bytes) bytes (S.left script.new) (O.written out.old) (O.written out.new) result.0)) }
+    ensures end { IsScriptEnd result.0 }
+    ensures layer { IsSameLayer Y.view Y.kind Y.faults Y.calls image result.1 }
+    ensures image { HasCause (Y.faults image) (Y.faults result.1) (result.0 ≡ Status.ImageFault) }
+    ensures script { HasCause (S.faults script.old) (S.faults script.new) (result.0 ≡ Status.ScriptFault) }
+    ensures out { HasCause (O.faults out.old) (O.faults out.new) (result.0 ≡ Status.OutFault) }
+{
+    match Memory::new(alloc, image, KEPT_RUNS) {
+        Ok(memory) => {
+            let mut memory = memory;
+            let mut page = Page::new(alloc);
+            let status = run_script(alloc, &mut memory, &mut page, script, out, steps);
+            (status, memory.into_layer())
+        }
+        Err(refused) => (Status::Memory, refused.phys),
+    }
+}
+
+// Tries the formats on the image, and runs the script over what it shows then.
+fn run_image<Y: Layer, S: Source, O: Sink, L: Ledger>(
+    alloc: Global,
+    image: Y,
     formats: &[Kind],
     script: &mut S,
     out: &mut O,
-) -> Status
-    requires file { Y.kind image.old ≡ Kind.File }
-    ensures ran { IfSome (Y.view image.old) (λ before. IfSome (S.left script.old) (λ bytes.
-        RanOver (physical (attached_view formats.now before)) (stack_run (stack_of formats.now before) bytes) bytes (S.left script.new) (O.written out.old) (O.written out.new) result)) }
-    ensures end { IsScriptEnd result }
-    ensures layer { KeepsOrAttaches formats.now (Y.view image.old) (Y.kind image.old) (Y.view image.new) (Y.kind image.new) }
-    ensures shows { IfSome (Y.view image.old) (λ before. IsAnswer result → Shows (attached formats.now before) (Y.view image.new) (Y.kind image.new)) }
-    ensures calls { Y.calls image.old ≤ Y.calls image.new }
-    ensures image { HasCause (Y.faults image.old) (Y.faults image.new) (result ≡ Status.ImageFault) }
-    ensures script { HasCause (S.faults script.old) (S.faults script.new) (result ≡ Status.ScriptFault) }
-    ensures out { HasCause (O.faults out.old) (O.faults out.new) (result ≡ Status.OutFault) }
+    steps: &mut Steps<L>,
+) -> (Status, Y)
+    requires file { Y.kind image ≡ Kind.File }
+    ensures ran { IfSome (Y.view image) (λ before. IfSome (S.left script.old) (λ bytes.
+        RanOver (physical (attached_view formats.now before)) (stack_run (stack_of formats.now before) bytes) bytes (S.left script.new) (O.written out.old) (O.written out.new) result.0)) }
+    ensures end { IsScriptEnd result.0 }
+    ensures layer { KeepsOrAttaches formats.now (Y.view image) (Y.kind image) (Y.view result.1) (Y.kind result.1) }
+    ensures shows { IfSome (Y.view image) (λ before. IsAnswer result.0 → Shows (attached formats.now before) (Y.view result.1) (Y.kind result.1)) }
+    ensures calls { Y.calls image ≤ Y.calls result.1 }
+    ensures image { HasCause (Y.faults image) (Y.faults result.1) (result.0 ≡ Status.ImageFault) }
+    ensures script { HasCause (S.faults script.old) (S.faults script.new) (result.0 ≡ Status.ScriptFault) }
+    ensures out { HasCause (O.faults out.old) (O.faults out.new) (result.0 ≡ Status.OutFault) }
 {
-    match attach_formats(image, formats) {
-        Ok(()) => run_script(alloc, image, script, out),
+    let mut image = image;
+    match attach_formats(&mut image, formats) {
+        Ok(()) => run_memory(alloc, image, script, out, steps),
         Err(StackFault::Refused(refusal)) => {
-            status_after(Status::ImageRefused, write_refusal(alloc, refusal, out))
+            let refused = write_refusal(alloc, refusal, out);
+            (status_after(Status::ImageRefused, refused), image)
         }
-        Err(StackFault::Device) => Status::ImageFault,
-        Err(StackFault::Memory) => Status::Memory,
+        Err(StackFault::Device) => (Status::ImageFault, image),
+        Err(StackFault::Memory) => (Status::Memory, image),
     }
 }
 
 // A run over a layer that needn't be boxed.
-fn run_over<Y: Layer, S: Source, O: Sink>(
+fn run_over<Y: Layer, S: Source, O: Sink, L: Ledger>(
     alloc: Global,
     words: &[String],
     image: Y,
     formats: &[Kind],
     script: &mut S,
     out: &mut O,
+    steps: &mut Steps<L>,
 ) -> (Status, Y)
     requires file { Y.kind image ≡ Kind.File }
     ensures ran { IfSome (Y.view image) (λ before. IfSome (S.left script.old) (λ bytes. (symbols : List ℕ) →
@@ -79,20 +116,19 @@ fn run_over<Y: Layer, S: Source, O: Sink>(
     ensures script { HasCause (S.faults script.old) (S.faults script.new) (result.0 ≡ Status.ScriptFault) }
     ensures out { HasCause (O.faults out.old) (O.faults out.new) (result.0 ≡ Status.OutFault) }
 {
-    let mut image = image;
     if !are_accepted(words) {
         return (status_after(Status::Usage, write_text(out, USAGE)), image);
     }
-    let status = run_image(alloc, &mut image, formats, script, out);
-    (status, image)
+    run_image(alloc, image, formats, script, out, steps)
 }
 
 /// Runs a script over an image, and writes what its lines print.
 ///
 /// The words are those of the command line. Where they are accepted, the formats are tried on the image in their
 /// order, and the first that it is of is attached; an image of none of them is read as it is. The symbol file is not
-/// read, and nothing is dumped. The script is taken one byte at a time, and a line is run before the next is read. A
-/// refusal of the words, of the image, or of a script that is too long, is a line of the text.
+/// read, and nothing is dumped. The script is taken one byte at a time, and a line is run before the next is read; the
+/// bytes behind the newline of a `quit` are left to the caller. A refusal of the words, of the image, or of a script
+/// that is too long, is a line of the text.
 ///
 /// The clauses on content hold where the image, the symbol file and the script tell what they hold, and those on a
 /// sink where it tells what was written. When `Memory` comes is left open.
@@ -155,6 +191,6 @@ pub fn run<J: Source, S: Source, O: Sink, D: Sink, L: Ledger>(
         (O.faults out.old) (O.faults out.new) (D.faults dump.old) (D.faults dump.new)
         → (result.status ≡ (run_of (map string_bytes words.now) formats.now before j s).status) ⊎ (result.status ≡ Status.Memory)) }
 {
-    let (status, layer) = run_over(alloc, words, image, formats, script, out);
+    let (status, layer) = run_over(alloc, words, image, formats, script, out, steps);
     Ended { status, layer }
 }

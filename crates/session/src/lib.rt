@@ -3,12 +3,13 @@
 
 mod command;
 mod ended;
-mod line;
 mod line_buffer;
+mod place;
 mod read;
 mod script;
 mod stack;
 mod status;
+mod translate;
 mod words;
 
 pub use ended::{Ended, run};

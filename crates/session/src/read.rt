@@ -3,27 +3,31 @@ ghost use Rattle.std.specs.Prelude.{◌≡◌, ◌+◌, ◌^◌, ◌<◌, ◌≤
 ghost use Rattle.layer_base.specs.AddressSpace.{bytes_from};
 ghost use Rattle.layer_base.specs.Counts.{HasCause};
 ghost use Rattle.layer_base.specs.Known.{Writes};
-ghost use Rattle.layer_base.specs.SameLayer.{IsSameLayer};
 ghost use Rattle.layer_base.specs.View.{physical};
+ghost use Rattle.space_memory.specs.InSpace.{in_space};
+ghost use Rattle.space_memory.specs.State.{IsSameMemory};
 ghost use Rattle.hex_text.specs.DumpRow.{dump_text};
+ghost use Rattle.session.specs.Command.{read_text};
 ghost use Rattle.session.specs.Read.{AddsCells, IsCountWithin};
 ghost use Rattle.session.specs.declared.read.TheConstants.{PIECE};
 
+use crate::place::Place;
 use crate::status::CommandFault;
 use hex_text::append_rows;
-use layer_base::{DeviceFailed, Layer, Run, Sink, write_whole};
+use layer_base::{DeviceFailed, Layer, Run, Sink, Steps, write_whole};
+use space_memory::Memory;
 use std::alloc::{AllocError, Global};
+use std::sync::ledger::Ledger;
 
 // How many bytes are read before their rows are written: a whole number of rows.
-const PIECE: usize = 4096;
+const PIECE: usize = 65_536;
 
-// A piece of memory, and the rows of it.
+/// A piece of memory, and the rows of it. It takes no memory before the first piece, and then keeps what it took.
 #[derive(Drop)]
-struct Page {
-    bytes: [u8; PIECE],
+pub(crate) struct Page {
+    bytes: Vec<u8>,
     cells: Vec<Option<u8>>,
     text: Vec<u8>,
-    ghost roomy: { PIECE ≤ vec_capacity cells },
 }
 
 fn push_present(cells: &mut Vec<Option<u8>>, bytes: &[u8])
@@ -46,25 +50,27 @@ fn push_absent(cells: &mut Vec<Option<u8>>, count: usize)
     }
 }
 
-// Adds the cells of as many addresses from `at` on as the layer tells in one call, and at most so many.
-fn push_run<Y: Layer>(
-    image: &mut Y,
-    at: u64,
+// Adds the cells of as many addresses from `at` on as the memory tells in one call, and at most so many.
+fn push_run<Y: Layer, L: Ledger>(
+    memory: &mut Memory<Y>,
+    place: Place,
     most: usize,
     buf: &mut [u8],
     cells: &mut Vec<Option<u8>>,
+    steps: &mut Steps<L>,
 ) -> Result<(), DeviceFailed>
     requires some { 0 < most }
     requires buffer { most ≤ length buf.old }
-    requires addresses { at + most ≤ 2 ^ 64 }
+    requires addresses { place.at + most ≤ 2 ^ 64 }
     requires room { vec_len cells.old + most ≤ vec_capacity cells.old }
     ensures count { OnOk result (IsCountWithin most cells.old.items cells.new.items) }
-    ensures cells { IfSome (Y.view image.old) (λ view. OnOk result (AddsCells (physical view) at cells.old.items cells.new.items)) }
+    ensures cells { IfSome memory.old.view (λ view. OnOk result (AddsCells (in_space (physical view) place.space) place.at cells.old.items cells.new.items)) }
     ensures capacity { vec_capacity cells.new ≡ vec_capacity cells.old }
-    ensures layer { IsSameLayer Y.view Y.kind Y.faults Y.calls image.old image.new }
-    ensures cause { HasCause (Y.faults image.old) (Y.faults image.new) (IsErr result) }
+    ensures memory { IsSameMemory memory.old memory.new }
+    ensures cause { HasCause memory.old.faults memory.new.faults (IsErr result) }
 {
-    match image.run_at(at, &mut buf[..most])? {
+    let at = place.at;
+    match memory.run_at(place.space, at, &mut buf[..most], steps)? {
         Run::Present { count } => push_present(cells, &buf[..count]),
         Run::Absent { last } => {
             let others = (last - at).min(most as u64 - 1) as usize;
@@ -74,104 +80,98 @@ fn push_run<Y: Layer>(
     Ok(())
 }
 
-// Adds the cells of so many addresses from `at` on.
-fn push_cells<Y: Layer>(
-    image: &mut Y,
-    at: u64,
+// Adds the cells of so many addresses from a place on.
+fn push_cells<Y: Layer, L: Ledger>(
+    memory: &mut Memory<Y>,
+    place: Place,
     len: usize,
     buf: &mut [u8],
     cells: &mut Vec<Option<u8>>,
+    steps: &mut Steps<L>,
 ) -> Result<(), DeviceFailed>
     requires buffer { len ≤ length buf.old }
-    requires addresses { at + len ≤ 2 ^ 64 }
+    requires addresses { place.at + len ≤ 2 ^ 64 }
     requires empty { cells.old.items ≡ [] }
     requires room { len ≤ vec_capacity cells.old }
-    ensures cells { IfSome (Y.view image.old) (λ view. OnOk result (cells.new.items ≡ bytes_from (physical view) at len)) }
+    ensures cells { IfSome memory.old.view (λ view. OnOk result (cells.new.items ≡ bytes_from (in_space (physical view) place.space) place.at len)) }
     ensures count { OnOk result (length cells.new.items ≡ len) }
     ensures capacity { vec_capacity cells.new ≡ vec_capacity cells.old }
-    ensures layer { IsSameLayer Y.view Y.kind Y.faults Y.calls image.old image.new }
-    ensures cause { HasCause (Y.faults image.old) (Y.faults image.new) (IsErr result) }
+    ensures memory { IsSameMemory memory.old memory.new }
+    ensures cause { HasCause memory.old.faults memory.new.faults (IsErr result) }
 {
     while cells.len() < len {
         let done = cells.len();
-        push_run(image, at + done as u64, len - done, buf, cells)?;
+        let next = Place {
+            space: place.space,
+            at: place.at + done as u64,
+        };
+        push_run(memory, next, len - done, buf, cells, steps)?;
     }
     Ok(())
 }
 
 impl Page {
-    fn new(alloc: Global) -> Result<Page, AllocError> {
-        Ok(Page {
-            bytes: [0; PIECE],
-            cells: Vec::with_capacity(alloc, PIECE)?,
+    pub(crate) fn new(alloc: Global) -> Page {
+        Page {
+            bytes: Vec::new(alloc),
+            cells: Vec::new(alloc),
             text: Vec::new(alloc),
-        })
+        }
     }
 
-    // Writes the rows of so many bytes from `at` on.
-    fn write<Y: Layer, O: Sink>(
+    // Writes the rows of so many bytes from a place on.
+    fn write<Y: Layer, O: Sink, L: Ledger>(
         &mut self,
-        image: &mut Y,
-        at: u64,
+        memory: &mut Memory<Y>,
+        place: Place,
         len: usize,
         out: &mut O,
+        steps: &mut Steps<L>,
     ) -> Result<(), CommandFault>
         requires piece { len ≤ PIECE }
-        requires addresses { at + len ≤ 2 ^ 64 }
-        ensures text { IfSome (Y.view image.old) (λ view.
-            Writes (O.written out.old) (O.written out.new) result (dump_text at (bytes_from (physical view) at len))) }
-        ensures layer { IsSameLayer Y.view Y.kind Y.faults Y.calls image.old image.new }
-        ensures image { HasCause (Y.faults image.old) (Y.faults image.new) (IsErrOf result CommandFault.Image) }
+        requires addresses { place.at + len ≤ 2 ^ 64 }
+        ensures text { IfSome memory.old.view (λ view.
+            Writes (O.written out.old) (O.written out.new) result (read_text (physical view) len place)) }
+        ensures memory { IsSameMemory memory.old memory.new }
+        ensures image { HasCause memory.old.faults memory.new.faults (IsErrOf result CommandFault.Image) }
         ensures out { HasCause (O.faults out.old) (O.faults out.new) (IsErrOf result CommandFault.Out) }
     {
+        self.bytes.resize(len, 0)?;
         self.cells.clear();
-        push_cells(image, at, len, &mut self.bytes, &mut self.cells)?;
+        self.cells.reserve(len)?;
+        push_cells(memory, place, len, &mut self.bytes, &mut self.cells, steps)?;
         self.text.clear();
-        append_rows(&mut self.text, at, &self.cells)?;
+        append_rows(&mut self.text, place.at, &self.cells)?;
         write_whole(out, &self.text)?;
         Ok(())
     }
 }
 
-// Writes the rows of so many bytes from `at` on, a piece after another.
-fn write_pieces<Y: Layer, O: Sink>(
-    image: &mut Y,
-    at: u64,
-    len: u64,
+/// Writes the rows of so many bytes from a place on, a piece after another.
+pub(crate) fn write_read<Y: Layer, O: Sink, L: Ledger>(
+    memory: &mut Memory<Y>,
     page: &mut Page,
+    place: Place,
+    len: u64,
     out: &mut O,
+    steps: &mut Steps<L>,
 ) -> Result<(), CommandFault>
-    requires { at + len ≤ 2 ^ 64 }
-    ensures text { IfSome (Y.view image.old) (λ view.
-        Writes (O.written out.old) (O.written out.new) result (dump_text at (bytes_from (physical view) at len))) }
-    ensures layer { IsSameLayer Y.view Y.kind Y.faults Y.calls image.old image.new }
-    ensures image { HasCause (Y.faults image.old) (Y.faults image.new) (IsErrOf result CommandFault.Image) }
+    requires { place.at + len ≤ 2 ^ 64 }
+    ensures text { IfSome memory.old.view (λ view.
+        Writes (O.written out.old) (O.written out.new) result (read_text (physical view) len place)) }
+    ensures memory { IsSameMemory memory.old memory.new }
+    ensures image { HasCause memory.old.faults memory.new.faults (IsErrOf result CommandFault.Image) }
     ensures out { HasCause (O.faults out.old) (O.faults out.new) (IsErrOf result CommandFault.Out) }
 {
     let mut done = 0;
     while done < len {
         let n = (len - done).min(PIECE as u64);
-        page.write(image, at + done, n as usize, out)?;
+        let next = Place {
+            space: place.space,
+            at: place.at + done,
+        };
+        page.write(memory, next, n as usize, out, steps)?;
         done += n;
     }
     Ok(())
-}
-
-/// Writes the rows of so many bytes of physical memory.
-pub(crate) fn write_dump<Y: Layer, O: Sink>(
-    alloc: Global,
-    image: &mut Y,
-    at: u64,
-    len: u64,
-    out: &mut O,
-) -> Result<(), CommandFault>
-    requires { at + len ≤ 2 ^ 64 }
-    ensures text { IfSome (Y.view image.old) (λ view.
-        Writes (O.written out.old) (O.written out.new) result (dump_text at (bytes_from (physical view) at len))) }
-    ensures layer { IsSameLayer Y.view Y.kind Y.faults Y.calls image.old image.new }
-    ensures image { HasCause (Y.faults image.old) (Y.faults image.new) (IsErrOf result CommandFault.Image) }
-    ensures out { HasCause (O.faults out.old) (O.faults out.new) (IsErrOf result CommandFault.Out) }
-{
-    let mut page = Page::new(alloc)?;
-    write_pieces(image, at, len, &mut page, out)
 }

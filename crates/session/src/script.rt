@@ -3,18 +3,21 @@ ghost use Rattle.std.specs.Prelude.{◌≡◌, option_to_list, IsErr, IsErrOf, I
 ghost use Rattle.std.specs.Io.KnownBytes.{Consumes, Keeps, IsAtEnd};
 ghost use Rattle.layer_base.specs.Counts.{HasCause};
 ghost use Rattle.layer_base.specs.Known.{Writes};
-ghost use Rattle.layer_base.specs.SameLayer.{IsSameLayer};
 ghost use Rattle.layer_base.specs.View.{physical};
+ghost use Rattle.space_memory.specs.State.{IsSameMemory};
 ghost use Rattle.session.specs.Ran.{IsScriptEnd, RanOver};
 ghost use Rattle.session.specs.Run.{script_run};
-ghost use Rattle.session.specs.Turn.{turn_text, turn_line, rest_text};
+ghost use Rattle.session.specs.Turn.{turn_text, turn_line, turn_flow, rest_text};
 
 use crate::Status;
-use crate::command::{run_line, write_text};
+use crate::command::{Flow, run_line, write_text};
 use crate::line_buffer::LineBuffer;
+use crate::read::Page;
 use crate::status::{CommandFault, status_after};
-use layer_base::{Failed, Layer, Sink, Source};
+use layer_base::{Failed, Layer, Sink, Source, Steps};
+use space_memory::Memory;
 use std::alloc::Global;
+use std::sync::ledger::Ledger;
 
 /// The most bytes of a script that are read, but for the one that shows that there are more.
 pub(crate) const MAX_SCRIPT: usize = 16_777_216;
@@ -31,61 +34,68 @@ fn take_byte<S: Source>(script: &mut S) -> Result<Option<u8>, Failed>
     Ok(if count == 0 { None } else { Some(byte[0]) })
 }
 
-// Takes a byte into the line, or runs the line that it ends.
-fn take_in<Y: Layer, O: Sink>(
+// Takes a byte into the line, or runs the line that it ends. Answers whether the script goes on.
+fn take_in<Y: Layer, O: Sink, L: Ledger>(
     alloc: Global,
-    image: &mut Y,
+    memory: &mut Memory<Y>,
+    page: &mut Page,
     line: &mut LineBuffer,
     byte: u8,
     out: &mut O,
-) -> Result<(), CommandFault>
-    ensures text { IfSome (Y.view image.old) (λ view.
+    steps: &mut Steps<L>,
+) -> Result<Flow, CommandFault>
+    ensures text { IfSome memory.old.view (λ view.
         Writes (O.written out.old) (O.written out.new) result (turn_text (physical view) line.old byte)) }
+    ensures flow { IfOk result (λ flow. flow ≡ turn_flow line.old byte) }
     ensures line { OnOk result (line.new ≡ turn_line line.old byte) }
-    ensures layer { IsSameLayer Y.view Y.kind Y.faults Y.calls image.old image.new }
-    ensures image { HasCause (Y.faults image.old) (Y.faults image.new) (IsErrOf result CommandFault.Image) }
+    ensures memory { IsSameMemory memory.old memory.new }
+    ensures image { HasCause memory.old.faults memory.new.faults (IsErrOf result CommandFault.Image) }
     ensures out { HasCause (O.faults out.old) (O.faults out.new) (IsErrOf result CommandFault.Out) }
 {
-    if byte == b'\n' {
-        run_line(alloc, image, line.bytes(), out)?;
-        line.clear();
-    } else {
+    if byte != b'\n' {
         line.add(byte);
+        return Ok(Flow::NextLine);
+    }
+    let flow = run_line(alloc, memory, page, line.bytes(), out, steps)?;
+    line.clear();
+    Ok(flow)
+}
+
+// Runs the line that lacks its newline, if there is one.
+fn run_rest<Y: Layer, O: Sink, L: Ledger>(
+    alloc: Global,
+    memory: &mut Memory<Y>,
+    page: &mut Page,
+    line: &LineBuffer,
+    out: &mut O,
+    steps: &mut Steps<L>,
+) -> Result<(), CommandFault>
+    ensures text { IfSome memory.old.view (λ view.
+        Writes (O.written out.old) (O.written out.new) result (rest_text (physical view) line.now)) }
+    ensures memory { IsSameMemory memory.old memory.new }
+    ensures image { HasCause memory.old.faults memory.new.faults (IsErrOf result CommandFault.Image) }
+    ensures out { HasCause (O.faults out.old) (O.faults out.new) (IsErrOf result CommandFault.Out) }
+{
+    if let rest @ [_, ..] = line.bytes() {
+        run_line(alloc, memory, page, rest, out, steps)?;
     }
     Ok(())
 }
 
-// Runs the line that lacks its newline, if there is one.
-fn run_rest<Y: Layer, O: Sink>(
+/// Runs the lines of a script, one after another through the first `quit`, and writes what they print.
+pub(crate) fn run_script<Y: Layer, S: Source, O: Sink, L: Ledger>(
     alloc: Global,
-    image: &mut Y,
-    line: &LineBuffer,
-    out: &mut O,
-) -> Result<(), CommandFault>
-    ensures text { IfSome (Y.view image.old) (λ view.
-        Writes (O.written out.old) (O.written out.new) result (rest_text (physical view) line.now)) }
-    ensures layer { IsSameLayer Y.view Y.kind Y.faults Y.calls image.old image.new }
-    ensures image { HasCause (Y.faults image.old) (Y.faults image.new) (IsErrOf result CommandFault.Image) }
-    ensures out { HasCause (O.faults out.old) (O.faults out.new) (IsErrOf result CommandFault.Out) }
-{
-    match line.bytes() {
-        [] => Ok(()),
-        rest => run_line(alloc, image, rest, out),
-    }
-}
-
-/// Runs the lines of a script, one after another, and writes what they print.
-pub(crate) fn run_script<Y: Layer, S: Source, O: Sink>(
-    alloc: Global,
-    image: &mut Y,
+    memory: &mut Memory<Y>,
+    page: &mut Page,
     script: &mut S,
     out: &mut O,
+    steps: &mut Steps<L>,
 ) -> Status
-    ensures ran { IfSome (Y.view image.old) (λ view. IfSome (S.left script.old) (λ bytes.
+    ensures ran { IfSome memory.old.view (λ view. IfSome (S.left script.old) (λ bytes.
         RanOver (physical view) (script_run (physical view) bytes) bytes (S.left script.new) (O.written out.old) (O.written out.new) result)) }
     ensures end { IsScriptEnd result }
-    ensures layer { IsSameLayer Y.view Y.kind Y.faults Y.calls image.old image.new }
-    ensures image { HasCause (Y.faults image.old) (Y.faults image.new) (result ≡ Status.ImageFault) }
+    ensures memory { IsSameMemory memory.old memory.new }
+    ensures image { HasCause memory.old.faults memory.new.faults (result ≡ Status.ImageFault) }
     ensures script { HasCause (S.faults script.old) (S.faults script.new) (result ≡ Status.ScriptFault) }
     ensures out { HasCause (O.faults out.old) (O.faults out.new) (result ≡ Status.OutFault) }
 {
@@ -93,17 +103,25 @@ pub(crate) fn run_script<Y: Layer, S: Source, O: Sink>(
     for _ in 0..MAX_SCRIPT {
         match take_byte(script) {
             Err(Failed) => return Status::ScriptFault,
-            Ok(None) => return status_after(Status::Ok, run_rest(alloc, image, &line, out)),
-            Ok(Some(byte)) => {
-                if let Err(fault) = take_in(alloc, image, &mut line, byte, out) {
-                    return fault.status();
-                }
+            Ok(None) => {
+                return status_after(
+                    Status::Ok,
+                    run_rest(alloc, memory, page, &line, out, steps),
+                );
             }
+            Ok(Some(byte)) => match take_in(alloc, memory, page, &mut line, byte, out, steps) {
+                Ok(Flow::NextLine) => {}
+                Ok(Flow::Quit) => return Status::Ok,
+                Err(fault) => return fault.status(),
+            },
         }
     }
     match take_byte(script) {
         Err(Failed) => Status::ScriptFault,
-        Ok(None) => status_after(Status::Ok, run_rest(alloc, image, &line, out)),
+        Ok(None) => status_after(
+            Status::Ok,
+            run_rest(alloc, memory, page, &line, out, steps),
+        ),
         Ok(Some(_)) => status_after(Status::ScriptTooLong, write_text(out, b"script too long\n")),
     }
 }

@@ -1,19 +1,19 @@
-use Rattle.std.proofs.Common.{◌≡◌, [], ◌∷◌, refl, arith}
+use Rattle.std.proofs.Common.{◌≡◌, [], ◌∷◌, refl, sym, ◌∙◌, arith}
 use Rattle.std.specs.Prelude.{IfSome}
 use Rattle.std.proofs.lemmas.Option.{IfSome_then}
 use Rattle.layer_base.specs.Known.{AppendsPrefix, Writes}
 use Rattle.layer_base.specs.View.{physical}
-use Rattle.layer_base.proofs.Layers.{IsSameLayer-trans}
 use Rattle.std.specs.Io.KnownBytes.{Appends, Consumes, IsAtEnd}
 use Rattle.session.specs.Turn.{turn_text, turn_line, rest_text}
 use Rattle.session.proofs.Ending.{script-failed, turn-failed, script-ended, script-too_long}
+use Rattle.session.proofs.Memories.{IsSameMemory-trans}
 use Rattle.session.proofs.Told.{IfSome-both}
 use Rattle.session.proofs.Underway.{Underway-next}
 use Rattle.session.proofs.script.run_script.Goals as goal
 
 pub returns-in-Err-clause-ran : goal.returns-in-Err-clause-ran
 returns-in-Err-clause-ran g c =
-    IfSome_then (g.Y.Layer.view c.args.image.now) c.loop.invariant.underway (λ view told.
+    IfSome_then c.args.memory.now.view c.loop.invariant.underway (λ view told.
     IfSome_then (g.S.Source.left c.args.script.now) told (λ bytes underway.
     script-failed (physical view) bytes _ _ _ _ c.loop.line c.loop.counter underway (omega arith) c.in-Err.ensures.err))
 
@@ -22,36 +22,35 @@ returns-in-Ok-None-clause-ran g c =
     let none = c.in-Ok-None.field-0-is in
     let taken : Consumes (g.S.Source.left c.loop.script) (g.S.Source.left c.take_byte.new.script) [] = rw none at c.in-Ok-None.ensures.taken in
     let end : IsAtEnd (g.S.Source.left c.take_byte.new.script) = (rw none at c.in-Ok-None.ensures.end) refl in
-    let text : IfSome (g.Y.Layer.view c.args.image.now) (λ view. Writes (g.O.Sink.written c.loop.out) (g.O.Sink.written c.run_rest.new.out) c.run_rest.result (rest_text (physical view) c.loop.line)) = rw c.loop.invariant.layer.same_view at c.run_rest.ensures.text in
-    rw c.status_after.ensures (IfSome-both (g.Y.Layer.view c.args.image.now) c.loop.invariant.underway text (λ view told writes.
+    let text : IfSome c.args.memory.now.view (λ view. Writes (g.O.Sink.written c.loop.out) (g.O.Sink.written c.run_rest.new.out) c.run_rest.result (rest_text (physical view) c.loop.line)) = rw c.loop.invariant.memory.same_view at c.run_rest.ensures.text in
+    rw c.status_after.ensures (IfSome-both c.args.memory.now.view c.loop.invariant.underway text (λ view told writes.
     IfSome_then (g.S.Source.left c.args.script.now) told (λ bytes underway.
     script-ended (physical view) bytes _ _ _ _ c.loop.line c.loop.counter underway (g.O.Sink.written c.run_rest.new.out) c.run_rest.result (omega arith) taken end writes)))
 
 pub returns-in-Err-take_in-clause-ran : goal.returns-in-Err-take_in-clause-ran
 returns-in-Err-take_in-clause-ran g c =
     let taken : Consumes (g.S.Source.left c.loop.script) (g.S.Source.left c.take_byte.new.script) (c.in-Ok-Some.byte ∷ []) = rw c.in-Ok-Some.field-0-is at c.in-Ok-Some.ensures.taken in
-    let text : IfSome (g.Y.Layer.view c.args.image.now) (λ view. AppendsPrefix (g.O.Sink.written c.loop.out) (g.O.Sink.written c.take_in.new.out) (turn_text (physical view) c.loop.line c.in-Ok-Some.byte)) = rw c.loop.invariant.layer.same_view at c.in-Err-take_in.ensures.text in
-    rw c.status.ensures (IfSome-both (g.Y.Layer.view c.args.image.now) c.loop.invariant.underway text (λ view told prefix.
+    let text : IfSome c.args.memory.now.view (λ view. AppendsPrefix (g.O.Sink.written c.loop.out) (g.O.Sink.written c.take_in.new.out) (turn_text (physical view) c.loop.line c.in-Ok-Some.byte)) = rw c.loop.invariant.memory.same_view at c.in-Err-take_in.ensures.text in
+    rw c.status.ensures (IfSome-both c.args.memory.now.view c.loop.invariant.underway text (λ view told prefix.
     IfSome_then (g.S.Source.left c.args.script.now) told (λ bytes underway.
     turn-failed (physical view) bytes _ _ _ _ c.loop.line c.loop.counter underway c.in-Ok-Some.byte c.in-Err-take_in.fault (g.O.Sink.written c.take_in.new.out) c.loop-test.true taken prefix)))
 
 pub loop-preserved : goal.loop-preserved
 loop-preserved g c =
     let taken : Consumes (g.S.Source.left c.loop.script) (g.S.Source.left c.take_byte.new.script) (c.in-Ok-Some.byte ∷ []) = rw c.in-Ok-Some.field-0-is at c.in-Ok-Some.ensures.taken in
-    let text : IfSome (g.Y.Layer.view c.args.image.now) (λ view. Appends (g.O.Sink.written c.loop.out) (g.O.Sink.written c.take_in.new.out) (turn_text (physical view) c.loop.line c.in-Ok-Some.byte)) = rw (c.loop.invariant.layer.same_view, c.in_default.is) at c.take_in.ensures.text in
-    let line : c.take_in.new.line ≡ turn_line c.loop.line c.in-Ok-Some.byte = rw c.in_default.is at c.take_in.ensures.line in
+    let text : IfSome c.args.memory.now.view (λ view. Appends (g.O.Sink.written c.loop.out) (g.O.Sink.written c.take_in.new.out) (turn_text (physical view) c.loop.line c.in-Ok-Some.byte)) = rw c.loop.invariant.memory.same_view at c.in-Ok-NextLine.ensures.text in
     record {
-      underway = IfSome-both (g.Y.Layer.view c.args.image.now) c.loop.invariant.underway text (λ view told written.
+      underway = IfSome-both c.args.memory.now.view c.loop.invariant.underway text (λ view told written.
           IfSome_then (g.S.Source.left c.args.script.now) told (λ bytes underway.
-          Underway-next (physical view) bytes _ _ _ _ _ c.loop.line c.take_in.new.line c.loop.counter c.in-Ok-Some.byte underway taken written line));
-      layer = IsSameLayer-trans g.Y.Layer.view g.Y.Layer.kind g.Y.Layer.faults g.Y.Layer.calls _ _ _ c.loop.invariant.layer c.take_in.ensures.layer;
+          Underway-next (physical view) bytes _ _ _ _ _ c.loop.line c.take_in.new.line c.loop.counter c.in-Ok-Some.byte underway taken written c.in-Ok-NextLine.ensures.line (sym c.in-Ok-NextLine.field-0-is ∙ c.in-Ok-NextLine.ensures.flow)));
+      memory = IsSameMemory-trans _ _ _ c.loop.invariant.memory c.take_in.ensures.memory;
       script = omega (arith, c.loop.invariant.script, c.take_byte.ensures.cause.kept);
       out = omega (arith, c.loop.invariant.out, c.take_in.ensures.out.kept);
     }
 
 pub returns-in-Err-take_byte-clause-ran : goal.returns-in-Err-take_byte-clause-ran
 returns-in-Err-take_byte-clause-ran g c =
-    IfSome_then (g.Y.Layer.view c.args.image.now) c.loop.invariant.underway (λ view told.
+    IfSome_then c.args.memory.now.view c.loop.invariant.underway (λ view told.
     IfSome_then (g.S.Source.left c.args.script.now) told (λ bytes underway.
     script-failed (physical view) bytes _ _ _ _ c.loop.line c.loop.counter underway (omega arith) c.in-Err-take_byte.ensures.err))
 
@@ -61,8 +60,8 @@ returns-in-Ok-None-take_byte-clause-ran g c =
     let taken : Consumes (g.S.Source.left c.loop.script) (g.S.Source.left c.take_byte-2.new.script) [] = rw none at c.in-Ok-None-take_byte.ensures.taken in
     let end : IsAtEnd (g.S.Source.left c.take_byte-2.new.script) = (rw none at c.in-Ok-None-take_byte.ensures.end) refl in
     let rest = c.run_rest-in-Ok-None-take_byte in
-    let text : IfSome (g.Y.Layer.view c.args.image.now) (λ view. Writes (g.O.Sink.written c.loop.out) (g.O.Sink.written rest.new.out) rest.result (rest_text (physical view) c.loop.line)) = rw c.loop.invariant.layer.same_view at rest.ensures.text in
-    rw c.status_after-in-Ok-None-take_byte.ensures (IfSome-both (g.Y.Layer.view c.args.image.now) c.loop.invariant.underway text (λ view told writes.
+    let text : IfSome c.args.memory.now.view (λ view. Writes (g.O.Sink.written c.loop.out) (g.O.Sink.written rest.new.out) rest.result (rest_text (physical view) c.loop.line)) = rw c.loop.invariant.memory.same_view at rest.ensures.text in
+    rw c.status_after-in-Ok-None-take_byte.ensures (IfSome-both c.args.memory.now.view c.loop.invariant.underway text (λ view told writes.
     IfSome_then (g.S.Source.left c.args.script.now) told (λ bytes underway.
     script-ended (physical view) bytes _ _ _ _ c.loop.line c.loop.counter underway (g.O.Sink.written rest.new.out) rest.result (omega arith) taken end writes)))
 
@@ -71,6 +70,6 @@ returns-in-Ok-Some-take_byte-clause-ran g c =
     let byte = c.in-Ok-Some-take_byte.field-0-0 in
     let taken : Consumes (g.S.Source.left c.loop.script) (g.S.Source.left c.take_byte-2.new.script) (byte ∷ []) = rw c.in-Ok-Some-take_byte.field-0-is at c.in-Ok-Some-take_byte.ensures.taken in
     let most : c.loop.counter ≡ 16777216 = omega arith in
-    rw c.status_after-in-Ok-Some-take_byte.ensures (IfSome_then (g.Y.Layer.view c.args.image.now) c.loop.invariant.underway (λ view told.
+    rw c.status_after-in-Ok-Some-take_byte.ensures (IfSome_then c.args.memory.now.view c.loop.invariant.underway (λ view told.
     IfSome_then (g.S.Source.left c.args.script.now) told (λ bytes underway.
     script-too_long (physical view) bytes _ _ _ _ c.loop.line c.loop.counter underway byte (g.O.Sink.written c.write_text.new.out) c.write_text.result most taken c.write_text.ensures.text)))
