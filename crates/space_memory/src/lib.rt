@@ -1,0 +1,8 @@
+//! True bytes and holes of any space of addresses: a space is read through its tables, and the layer below gives the
+//! bytes.
+#![tactic(auto)]
+
+mod memory;
+mod through;
+
+pub use memory::{Got, Memory, NoMemory};

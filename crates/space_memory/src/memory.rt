@@ -1,0 +1,73 @@
+//! A memory: the spaces of an image, read through their tables.
+ghost use Rattle.std.specs.Prelude.{◌≡◌, ◌+◌, ◌*◌, ◌^◌, ◌<◌, ◌≤◌, [], false, None, length, IsErr, IfOk, IfErr, IfSome};
+ghost use Rattle.layer_base.specs.Counts.{HasCause};
+ghost use Rattle.layer_base.specs.Run.{IsWithin, IsTrueOf};
+ghost use Rattle.layer_base.specs.View.{physical};
+ghost use Rattle.intel_paging.specs.Block.{translation};
+ghost use Rattle.intel_paging.specs.Walk.{asks_tables, levels_of};
+ghost use Rattle.intel_paging.specs.Word.{word};
+ghost use Rattle.space_memory.specs.Hole.{IsGot, IsGotWithin};
+ghost use Rattle.space_memory.specs.InSpace.{in_space};
+ghost use Rattle.space_memory.specs.State.{IsSameMemory};
+
+use crate::through::{place_in, run_in};
+use byteorder::{ByteOrder, LittleEndian};
+use intel_paging::walk;
+use layer_base::{DeviceFailed, Layer, Run, Space, Steps};
+use std::alloc::Global;
+use std::marker::Model;
+use std::sync::ledger::Ledger;
+
+/// What a read found.
+#[derive(Clone, Copy, Debug, PartialEq, Eq)]
+pub enum Got {
+    /// All bytes that were asked for.
+    All,
+    /// The first address without a byte.
+    Hole { at: u64 },
+}
+
+/// The spaces of an image.
+#[derive(Drop)]
+pub struct Memory<Y: Layer> {
+    phys: Y,
+    capacity: usize,
+}
+
+/// There was no memory for a `Memory`. The layer is given back.
+#[derive(Drop)]
+pub struct NoMemory<Y: Layer> {
+    pub phys: Y,
+}
+
+impl<Y: Layer> Model for Memory<Y> {
+    ghost use Rattle.std.specs.Prelude.{[], None};
+    ghost use Rattle.space_memory.specs.State.{MemoryState};
+    ghost use Rattle.space_memory.specs.Codes.{state_code};
+
+    ghost Value = { MemoryState };
+
+    ghost coded = { state_code };
+
+    ghost view = { λ m. record { view = Y.view m.phys; kind = Y.kind m.phys; faults = Y.faults m.phys; calls = Y.calls m.phys; capacity = m.capacity; kept = []; last = None } };
+}
+
+impl<Y: Layer> Memory<Y> {
+    /// The memory of an image, which may keep so many runs of its spaces. None is kept yet.
+    pub fn new(_alloc: Global, phys: Y, capacity: usize) -> Result<Memory<Y>, NoMemory<Y>>
+        ensures ok { IfOk result (λ memory. memory ≡ record { view = Y.view phys; kind = Y.kind phys; faults = Y.faults phys; calls = Y.calls phys; capacity = capacity; kept = []; last = None }) }
+        ensures err { IfErr result (λ refused. refused.phys ≡ phys) }
+    {
+        Ok(Memory { phys, capacity })
+    }
+
+    /// The image again, as the memory left it.
+    pub fn into_layer(self) -> Y
+        ensures view { Y.view result ≡ self.view }
+        ensures kind { Y.kind result ≡ self.kind }
+        ensures faults { Y.faults result ≡ self.faults }
+        ensures calls { Y.calls result ≡ self.calls }
+    {
+        self.phys
+    }
+}
