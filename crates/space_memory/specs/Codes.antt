@@ -1,5 +1,6 @@
 -- How the state of a memory is stored as numbers and lists.
-use Rattle.std.specs.Prelude.{◌≡◌, ℕ, Bool, true, false, List, [], ◌∷◌, Option, None, Some, refl, ap}
+use Rattle.std.specs.Prelude.{◌≡◌, ℕ, Bool, true, false, List, [], ◌∷◌, Option, None, Some, refl}
+use Rattle.std.proofs.Common.{ap}
 use Rattle.std.specs.Coded.{Coded, code_by, coded×, coded_ℕ, coded_bool, coded_list, coded_option}
 use Rattle.layer_base.specs.View.{View}
 use Rattle.layer_base.specs.View.View.{File, Ranges}
@@ -26,7 +27,7 @@ abbrev view_over : List ℕ → List (List Segment) → View
 view_over bytes [] = File bytes
 view_over bytes (segments ∷ rest) = Ranges (view_over bytes rest) segments
 
-view_again : (view : View) → view_over (parts_of view).0 (parts_of view).1 ≡ view
+pub view_again : (view : View) → view_over (parts_of view).0 (parts_of view).1 ≡ view
 view_again (File bytes) = refl
 view_again (Ranges below segments) = ap (λ v. Ranges v segments) (view_again below)
 
@@ -42,7 +43,7 @@ abbrev kind_from : Bool → Kind
 kind_from true = kinds.File
 kind_from false = kinds.Lime
 
-kind_again : (kind : Kind) → kind_from (is_file kind) ≡ kind
+pub kind_again : (kind : Kind) → kind_from (is_file kind) ≡ kind
 kind_again kinds.File = refl
 kind_again kinds.Lime = refl
 
@@ -57,7 +58,7 @@ abbrev levels_from : Bool → Levels
 levels_from true = Four
 levels_from false = Five
 
-levels_again : (levels : Levels) → levels_from (are_four levels) ≡ levels
+pub levels_again : (levels : Levels) → levels_from (are_four levels) ≡ levels
 levels_again Four = refl
 levels_again Five = refl
 
@@ -72,7 +73,7 @@ abbrev space_over : Option (ℕ × Levels) → Space
 space_over None = Phys
 space_over (Some tables) = Paged tables.0 tables.1
 
-space_again : (space : Space) → space_over (tables_of space) ≡ space
+pub space_again : (space : Space) → space_over (tables_of space) ≡ space
 space_again Phys = refl
 space_again (Paged root levels) = refl
 

@@ -8,9 +8,10 @@ use Rattle.layer_base.specs.declared.space.Space.{Space}
 use Rattle.intel_paging.specs.Walk.{IsBlock}
 use Rattle.space_memory.specs.InSpace.{in_space}
 
--- the last of the physical addresses that the run is mapped to is below 2 ^ 64
-abbrev pub FitsMemory : Mapped → Type 0
-FitsMemory run = IfSome run.to (λ to. to + (run.last - run.first) < 2 ^ 64)
+-- the run's addresses, and the physical ones that they are mapped to, are below 2 ^ 64
+pub record FitsMemory (run : Mapped) : Type 0 where
+  pub last : run.last < 2 ^ 64
+  pub to : IfSome run.to (λ to. to + (run.last - run.first) < 2 ^ 64)
 
 -- the answer is true of each space that has the run as a block
 abbrev pub IsTrueThrough : AddressSpace → Mapped → ℕ → List ℕ → Run → Type 0
