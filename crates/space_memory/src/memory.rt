@@ -61,6 +61,51 @@ impl<Y: Layer> Memory<Y> {
         Ok(Memory { phys, capacity })
     }
 
+    /// Says what is at the addresses of a space from `at` on: at least one byte, and as many as the page and the layer
+    /// give, or a hole. After a failure what the buffer holds is open.
+    ///
+    /// It takes one step, and one more for each table that is read. It takes no memory.
+    pub fn run_at<L: Ledger>(
+        &mut self,
+        space: Space,
+        at: u64,
+        buf: &mut [u8],
+        steps: &mut Steps<L>,
+    ) -> Result<Run, DeviceFailed>
+        requires only_physical { space ≡ Space.Phys }
+        requires some { 0 < length buf.old }
+        ensures within { IfOk result (IsWithin at (length buf.old)) }
+        ensures run { IfSome self.old.view (λ view. IfOk result (IsTrueOf (in_space (physical view) space) at buf.new)) }
+        ensures some_steps { steps.old < steps.new }
+        ensures most_steps { steps.new ≤ steps.old + 1 + levels_of space }
+        ensures one_step { asks_tables space at ≡ false → steps.new ≡ steps.old + 1 }
+        ensures most_calls { self.new.calls ≤ self.old.calls + 1 + 8 * levels_of space }
+        ensures one_call { asks_tables space at ≡ false → self.new.calls ≤ self.old.calls + 1 }
+        ensures memory { IsSameMemory self.old self.new }
+        ensures cause { HasCause self.old.faults self.new.faults (IsErr result) }
+    {
+        steps.tick();
+        let run = walk(&mut self.phys, space, at, steps)?;
+        run_in(&mut self.phys, &run, at, buf)
+    }
+
+    /// The physical address of an address of a space, which may itself be absent, or none where nothing is mapped.
+    pub fn translate<L: Ledger>(
+        &mut self,
+        space: Space,
+        at: u64,
+        steps: &mut Steps<L>,
+    ) -> Result<Option<u64>, DeviceFailed>
+        requires only_physical { space ≡ Space.Phys }
+        ensures place { IfSome self.old.view (λ view. IfOk result (λ place. place ≡ translation (physical view) space at)) }
+        ensures most_steps { steps.new ≤ steps.old + levels_of space }
+        ensures memory { IsSameMemory self.old self.new }
+        ensures cause { HasCause self.old.faults self.new.faults (IsErr result) }
+    {
+        let run = walk(&mut self.phys, space, at, steps)?;
+        Ok(place_in(&run, at))
+    }
+
     /// The image again, as the memory left it.
     pub fn into_layer(self) -> Y
         ensures view { Y.view result ≡ self.view }
