@@ -1,6 +1,6 @@
 -- The laws of the bytes of a space.
 use Rattle.std.proofs.Common.{◌≡◌, ℕ, zero, suc, ◌+◌, ◌-◌, ◌^◌, ◌<◌, ◌≤◌, true, nat_lt, List, ◌∷◌, ◌++◌, length, map, take, Option, None, Some, refl, sym, ap, ◌∙◌, arith}
-use Rattle.std.specs.Prelude.{option_map, option_and_then, IfSome}
+use Rattle.std.specs.Prelude.{option_map, option_and_then}
 use Rattle.std.proofs.lemmas.Bool.Decides.{nat_tests}
 use Rattle.std.proofs.lemmas.List.{take-append-le}
 use Rattle.layer_base.specs.AddressSpace.{AddressSpace, bytes_from}
@@ -9,11 +9,6 @@ use Rattle.layer_base.specs.declared.space.Space.{Space}
 use Rattle.intel_paging.specs.Block.{place_in}
 use Rattle.intel_paging.specs.Walk.{Holds, IsBlock}
 use Rattle.space_memory.specs.InSpace.{in_space}
-
--- what holds of every view holds of the one that is told
-pub always : {X : Type 0} (told : Option X) {P : X → Type 0} → ((x : X) → P x) → IfSome told P
-always None each = tt
-always (Some x) each = each x
 
 -- At an address of a block stands the byte at its physical address, and none where the block is mapped to nothing.
 pub in_space-block : (memory : AddressSpace) (space : Space) (run : Mapped) (a : ℕ) → IsBlock memory space run → Holds run a → a < 2 ^ 64 → in_space memory space a ≡ option_and_then memory (place_in run a)

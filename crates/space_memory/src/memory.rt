@@ -89,6 +89,55 @@ impl<Y: Layer> Memory<Y> {
         run_in(&mut self.phys, &run, at, buf)
     }
 
+    /// Fills the buffer with the bytes from `at` on, or says the first address that has none; the bytes before it stand
+    /// in the front of the buffer. After a failure what the buffer holds is open.
+    pub fn read<L: Ledger>(
+        &mut self,
+        space: Space,
+        at: u64,
+        buf: &mut [u8],
+        steps: &mut Steps<L>,
+    ) -> Result<Got, DeviceFailed>
+        requires only_physical { space ≡ Space.Phys }
+        requires addresses { at + length buf.old ≤ 2 ^ 64 }
+        ensures got { IfSome self.old.view (λ view. IfOk result (IsGot (in_space (physical view) space) at buf.new)) }
+        ensures within { IfOk result (IsGotWithin at (length buf.old)) }
+        ensures most_steps { steps.new ≤ steps.old + length buf.old * (1 + levels_of space) }
+        ensures memory { IsSameMemory self.old self.new }
+        ensures cause { HasCause self.old.faults self.new.faults (IsErr result) }
+    {
+        let mut done = 0;
+        while done < buf.len() {
+            let next = at + done as u64;
+            match self.run_at(space, next, &mut buf[done..], steps)? {
+                Run::Present { count } => done += count,
+                Run::Absent { .. } => return Ok(Got::Hole { at: next }),
+            }
+        }
+        Ok(Got::All)
+    }
+
+    /// The little-endian number in the eight bytes from `at` on, none where one of them is absent.
+    pub fn word<L: Ledger>(
+        &mut self,
+        space: Space,
+        at: u64,
+        steps: &mut Steps<L>,
+    ) -> Result<Option<u64>, DeviceFailed>
+        requires only_physical { space ≡ Space.Phys }
+        requires addresses { at + 8 ≤ 2 ^ 64 }
+        ensures word { IfSome self.old.view (λ view. IfOk result (λ word_there. word_there ≡ word (in_space (physical view) space) at)) }
+        ensures most_steps { steps.new ≤ steps.old + 8 * (1 + levels_of space) }
+        ensures memory { IsSameMemory self.old self.new }
+        ensures cause { HasCause self.old.faults self.new.faults (IsErr result) }
+    {
+        let mut bytes = [0; 8];
+        match self.read(space, at, &mut bytes, steps)? {
+            Got::All => Ok(Some(LittleEndian::read_u64(&bytes))),
+            Got::Hole { .. } => Ok(None),
+        }
+    }
+
     /// The physical address of an address of a space, which may itself be absent, or none where nothing is mapped.
     pub fn translate<L: Ledger>(
         &mut self,

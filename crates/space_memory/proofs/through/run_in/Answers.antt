@@ -4,12 +4,13 @@ use Rattle.std.proofs.lemmas.Option.{IfSome_then}
 use Rattle.layer_base.specs.View.{physical}
 use Rattle.layer_base.specs.Run.{IsTrueOf}
 use Rattle.layer_base.specs.declared.layer.Run.TheVariants.{Present, Absent}
-use Rattle.space_memory.proofs.Spaces.{always, unmapped, present, absent}
+use Rattle.space_memory.proofs.Told.{IfSome-always}
+use Rattle.space_memory.proofs.Spaces.{unmapped, present, absent}
 use Rattle.space_memory.proofs.through.run_in.Goals as goal
 
 pub returns-in_default-clause-run : goal.returns-in_default-clause-run
 returns-in_default-clause-run g c =
-    always (g.Y.Layer.view c.args.phys.now) (λ view space block.
+    IfSome-always (g.Y.Layer.view c.args.phys.now) (λ view space block.
     unmapped (physical view) space c.args.run.now c.args.at block c.requires.holds c.requires.fits.last (sym c.place_in.ensures ∙ c.in_default.is))
 
 pub returns-in-Present-clause-run : goal.returns-in-Present-clause-run
