@@ -6,15 +6,13 @@ use Rattle.std.proofs.lemmas.Bool.Decides.{nat_tests}
 use Rattle.std.proofs.lemmas.Nat.{div-mul-add, pow-add}
 use Rattle.layer_base.specs.AddressSpace.{AddressSpace}
 use Rattle.layer_base.specs.Space.{page_address}
-use Rattle.layer_base.specs.View.{View, physical}
 use Rattle.layer_base.specs.declared.space.Levels.{Levels}
 use Rattle.layer_base.specs.declared.space.Levels.TheVariants.{Four, Five}
 use Rattle.layer_base.specs.declared.space.Mapped.{Mapped}
-use Rattle.layer_base.specs.declared.space.Space.{Space}
 use Rattle.layer_base.specs.declared.space.Space.TheVariants.{Phys, Paged}
 use Rattle.intel_paging.specs.Block.{block_around, block_by, block_from, block_of, non_canonical}
 use Rattle.intel_paging.specs.Entry.{entry_of}
-use Rattle.intel_paging.specs.Paging.{block_size, count_of, entry_address, half_size, is_canonical}
+use Rattle.intel_paging.specs.Paging.{block_size, count_of, entry_address, is_canonical}
 use Rattle.intel_paging.specs.Walk.{Holds, IsAligned, IsBlock}
 use Rattle.intel_paging.specs.Word.{word}
 use Rattle.intel_paging.specs.declared.entry.Entry.{Entry}
@@ -125,16 +123,3 @@ pub block_from-level : (memory : AddressSpace) (level table a : ℕ) → 1 ≤ l
 unfolding block_from
 block_from-level memory zero table a least = absurd (omega arith)
 block_from-level memory (suc level) table a least = let below : suc level - 1 ≡ level = omega arith in rw below refl
-
--- what a table maps, in terms of the entry that was read
-pub by_entry : (told : Option View) (level table a : ℕ) (entry : Entry) → 1 ≤ level → IfSome told (λ view. entry ≡ entry_of level (word (physical view) (entry_address level table a)))
-    → IfSome told (λ view. block_by (block_size level) a entry (λ at. block_from (physical view) (level - 1) at a) ≡ block_from (physical view) level table a)
-by_entry None level table a entry least read = tt
-by_entry (Some view) level table a entry least read =
-    ap (λ e. block_by (block_size level) a e (λ at. block_from (physical view) (level - 1) at a)) read ∙ sym (block_from-level (physical view) level table a least)
-
--- the entry names a table, of which the layer tells the same as before
-pub by_table : (told now : Option View) (level table a at : ℕ) (run : Mapped) → now ≡ told → 1 ≤ level → IfSome told (λ view. Table at ≡ entry_of level (word (physical view) (entry_address level table a)))
-    → IfSome now (λ view. run ≡ block_from (physical view) (level - 1) at a) → IfSome told (λ view. run ≡ block_from (physical view) level table a)
-by_table None now level table a at run same least read below = tt
-by_table (Some view) now level table a at run same least read below = rw same at below ∙ by_entry (Some view) level table a (Table at) least read

@@ -1,5 +1,5 @@
 -- How the bytes of a piece come together from the runs of a layer.
-use Rattle.std.proofs.Common.{◌≡◌, ℕ, zero, suc, ◌+◌, ◌-◌, ◌<◌, ◌≤◌, true, false, List, [], ◌∷◌, ◌++◌, length, take, map, Option, None, Some, refl, sym, ap, ◌∙◌, arith, length-take}
+use Rattle.std.proofs.Common.{◌≡◌, ℕ, zero, suc, ◌+◌, ◌<◌, ◌≤◌, true, false, List, [], ◌∷◌, ◌++◌, length, take, map, Option, None, Some, refl, sym, ap, ◌∙◌, arith, length-take}
 use Rattle.std.specs.Option.{IfSome}
 use Rattle.std.specs.Prelude.{nat_lt}
 use Rattle.std.proofs.Math.Seq.{take-append-add}
@@ -13,7 +13,7 @@ use Rattle.layer_base.specs.declared.layer.Run.TheVariants.{Present}
 use Rattle.layer_base.specs.View.{View, physical}
 use Rattle.byteorder.specs.Endian.{little_number}
 use Rattle.intel_paging.specs.Word.{word}
-use Rattle.layer_base.proofs.Present.{present_from-absent, present_from-add, present_from-end}
+use Rattle.layer_base.proofs.Present.{present_from-add, present_from-end}
 
 -- bytes that all stand in a list are all present
 pub present_from-bytes : (memory : AddressSpace) (at n : ℕ) (bytes : List ℕ) → bytes_from memory at n ≡ map Some bytes → present_from memory at n ≡ bytes

@@ -1,9 +1,9 @@
 -- Translations over small tables, by computation.
-use Rattle.std.proofs.Common.{◌≡◌, ℕ, ◌*◌, ◌/◌, ◌%◌, ◌^◌, Option, None, Some, refl}
+use Rattle.std.proofs.Common.{◌≡◌, ℕ, ◌*◌, ◌/◌, ◌%◌, ◌^◌, None, Some, refl}
 use Rattle.std.specs.Prelude.{nat_lt, nat_eq, if◌then◌else◌}
 use Rattle.layer_base.specs.AddressSpace.{AddressSpace}
-use Rattle.layer_base.specs.declared.space.Levels.TheVariants.{Four, Five}
-use Rattle.layer_base.specs.declared.space.Space.TheVariants.{Phys, Paged}
+use Rattle.layer_base.specs.declared.space.Levels.TheVariants.{Four}
+use Rattle.layer_base.specs.declared.space.Space.TheVariants.{Paged}
 use Rattle.intel_paging.specs.Block.{block_from, block_of, translation}
 use Rattle.intel_paging.specs.Word.{word}
 use Rattle.layer_base.specs.Present.{present_from}

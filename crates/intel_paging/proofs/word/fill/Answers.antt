@@ -1,4 +1,4 @@
-use Rattle.std.proofs.Common.{ℕ, length, length-take, length-drop, refl, ◌∙◌, arith}
+use Rattle.std.proofs.Common.{ℕ, length, length-take, length-drop, arith}
 use Rattle.std.proofs.lemmas.Option.{IfSome_then}
 use Rattle.layer_base.proofs.Layers.{IsSameLayer-refl, IsSameLayer-trans}
 use Rattle.intel_paging.proofs.Filling.{nothing, filled, ended}

@@ -1,5 +1,4 @@
-use Rattle.std.proofs.Common.{◌≡◌, ◌≤◌, ◌+◌, ◌-◌, take, length}
-use Rattle.std.specs.Option.{IfSome}
+use Rattle.std.proofs.Common.{◌≤◌, ◌+◌, ◌-◌, take, length}
 use Rattle.layer_base.specs.SameLayer.{IsSameLayer}
 use Rattle.intel_paging.proofs.Filling.{Stands}
 use Rattle.intel_paging.proofs.word.fill.Given as goal
