@@ -72,8 +72,7 @@ impl<Y: Layer> Memory<Y> {
         buf: &mut [u8],
         steps: &mut Steps<L>,
     ) -> Result<Run, DeviceFailed>
-        requires only_physical { space ≡ Space.Phys }
-        requires some { 0 < length buf.old }
+        requires { 0 < length buf.old }
         ensures within { IfOk result (IsWithin at (length buf.old)) }
         ensures run { IfSome self.old.view (λ view. IfOk result (IsTrueOf (in_space (physical view) space) at buf.new)) }
         ensures some_steps { steps.old < steps.new }
@@ -98,8 +97,7 @@ impl<Y: Layer> Memory<Y> {
         buf: &mut [u8],
         steps: &mut Steps<L>,
     ) -> Result<Got, DeviceFailed>
-        requires only_physical { space ≡ Space.Phys }
-        requires addresses { at + length buf.old ≤ 2 ^ 64 }
+        requires { at + length buf.old ≤ 2 ^ 64 }
         ensures got { IfSome self.old.view (λ view. IfOk result (IsGot (in_space (physical view) space) at buf.new)) }
         ensures within { IfOk result (IsGotWithin at (length buf.old)) }
         ensures most_steps { steps.new ≤ steps.old + length buf.old * (1 + levels_of space) }
@@ -124,8 +122,7 @@ impl<Y: Layer> Memory<Y> {
         at: u64,
         steps: &mut Steps<L>,
     ) -> Result<Option<u64>, DeviceFailed>
-        requires only_physical { space ≡ Space.Phys }
-        requires addresses { at + 8 ≤ 2 ^ 64 }
+        requires { at + 8 ≤ 2 ^ 64 }
         ensures word { IfSome self.old.view (λ view. IfOk result (λ word_there. word_there ≡ word (in_space (physical view) space) at)) }
         ensures most_steps { steps.new ≤ steps.old + 8 * (1 + levels_of space) }
         ensures memory { IsSameMemory self.old self.new }
@@ -145,7 +142,6 @@ impl<Y: Layer> Memory<Y> {
         at: u64,
         steps: &mut Steps<L>,
     ) -> Result<Option<u64>, DeviceFailed>
-        requires only_physical { space ≡ Space.Phys }
         ensures place { IfSome self.old.view (λ view. IfOk result (λ place. place ≡ translation (physical view) space at)) }
         ensures most_steps { steps.new ≤ steps.old + levels_of space }
         ensures memory { IsSameMemory self.old self.new }
