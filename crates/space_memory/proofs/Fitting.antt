@@ -1,14 +1,13 @@
 -- The addresses of a block, and those that it is mapped to, are below 2 ^ 64.
-use Rattle.std.proofs.Common.{◌≡◌, ℕ, zero, suc, ◌+◌, ◌-◌, ◌*◌, ◌/◌, ◌%◌, ◌^◌, ◌<◌, ◌≤◌, Bool, true, false, if◌then◌else◌, Option, None, Some, refl, sym, ap, subst, arith}
+use Rattle.std.proofs.Common.{◌≡◌, ℕ, zero, suc, ◌+◌, ◌-◌, ◌%◌, ◌^◌, ◌<◌, ◌≤◌, Bool, true, false, Option, None, Some, refl, subst, arith}
 use Rattle.std.specs.Prelude.{IfSome}
 use Rattle.layer_base.specs.AddressSpace.{AddressSpace}
-use Rattle.layer_base.specs.declared.space.Levels.{Levels}
 use Rattle.layer_base.specs.declared.space.Levels.TheVariants.{Four, Five}
 use Rattle.layer_base.specs.declared.space.Mapped.{Mapped}
 use Rattle.layer_base.specs.declared.space.Space.{Space}
 use Rattle.layer_base.specs.declared.space.Space.TheVariants.{Phys, Paged}
-use Rattle.intel_paging.specs.Block.{block_of, block_from, non_canonical}
-use Rattle.intel_paging.specs.Paging.{block_size, count_of, is_canonical}
+use Rattle.intel_paging.specs.Block.{block_of}
+use Rattle.intel_paging.specs.Paging.{block_size}
 use Rattle.intel_paging.specs.Walk.{Holds, IsAligned, asks_tables}
 use Rattle.space_memory.specs.Through.{FitsMemory}
 

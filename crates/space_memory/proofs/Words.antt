@@ -1,10 +1,10 @@
 -- The number in eight bytes that were read.
-use Rattle.std.proofs.Common.{◌≡◌, ℕ, ◌<◌, true, false, if◌then◌else◌, nat_lt, List, length, Option, None, Some, refl, sym, ap, ◌∙◌, arith}
+use Rattle.std.proofs.Common.{◌≡◌, ℕ, ◌<◌, true, false, nat_lt, List, length, None, Some, refl, arith}
 use Rattle.std.proofs.lemmas.Bool.Decides.{nat_tests}
 use Rattle.byteorder.specs.Endian.{little_number}
 use Rattle.layer_base.specs.AddressSpace.{AddressSpace}
 use Rattle.layer_base.specs.Present.{present_from}
-use Rattle.intel_paging.specs.Word.{word, word_of}
+use Rattle.intel_paging.specs.Word.{word}
 use Rattle.space_memory.specs.Hole.{IsGot}
 use Rattle.space_memory.specs.declared.memory.Got.TheVariants.{All, Hole}
 use Rattle.space_memory.proofs.Holes.{present_from-all, present_from-fewer}

@@ -1,5 +1,5 @@
 -- The bytes of a space of addresses.
-use Rattle.std.specs.Prelude.{ℕ, ◌^◌, nat_lt, if◌then◌else◌, None, option_and_then}
+use Rattle.std.specs.Prelude.{◌^◌, nat_lt, if◌then◌else◌, None, option_and_then}
 use Rattle.layer_base.specs.AddressSpace.{AddressSpace}
 use Rattle.layer_base.specs.declared.space.Space.{Space}
 use Rattle.intel_paging.specs.Block.{translation}

@@ -1,4 +1,4 @@
-//! True bytes and holes of any space of addresses: a space is read through its tables, and the layer below gives the
+//! True bytes and holes of any space of addresses. A space is read through its tables, and the layer below gives the
 //! bytes.
 #![tactic(auto)]
 
@@ -6,3 +6,8 @@ mod memory;
 mod through;
 
 pub use memory::{Got, Memory, NoMemory};
+
+#[cfg(test)]
+mod test_layer;
+#[cfg(test)]
+mod tests;

@@ -123,7 +123,7 @@ impl<Y: Layer> Memory<Y> {
         steps: &mut Steps<L>,
     ) -> Result<Option<u64>, DeviceFailed>
         requires { at + 8 ≤ 2 ^ 64 }
-        ensures word { IfSome self.old.view (λ view. IfOk result (λ word_there. word_there ≡ word (in_space (physical view) space) at)) }
+        ensures word { IfSome self.old.view (λ view. IfOk result (λ number. number ≡ word (in_space (physical view) space) at)) }
         ensures most_steps { steps.new ≤ steps.old + 8 * (1 + levels_of space) }
         ensures memory { IsSameMemory self.old self.new }
         ensures cause { HasCause self.old.faults self.new.faults (IsErr result) }

@@ -1,17 +1,14 @@
-use Rattle.std.proofs.Common.{◌≡◌, ◌+◌, ◌-◌, ◌*◌, ◌≤◌, length, map, take, Some}
-use Rattle.std.specs.Prelude.{IfSome}
-use Rattle.layer_base.specs.AddressSpace.{bytes_from}
-use Rattle.layer_base.specs.View.{physical}
+use Rattle.std.proofs.Common.{◌+◌, ◌-◌, ◌*◌, ◌≤◌, length}
 use Rattle.intel_paging.specs.Walk.{levels_of}
-use Rattle.space_memory.specs.InSpace.{in_space}
 use Rattle.space_memory.specs.State.{IsSameMemory}
+use Rattle.space_memory.proofs.Reading.{AreRead}
 use Rattle.space_memory.proofs.memory.Memory.read.Given as goal
 
 -- the bytes so far stand in front
 abbrev pub invariant-loop-done : goal.invariant-loop-done
 invariant-loop-done g l = record {
   within : l.done ≤ length l.buf;
-  bytes : IfSome l.fn.self.view (λ view. bytes_from (in_space (physical view) l.space) l.at l.done ≡ map Some (take l.done l.buf));
+  bytes : AreRead l.fn.self.view l.space l.at l.done l.buf;
   steps : l.steps ≤ l.fn.steps + l.done * (1 + levels_of l.space);
   memory : IsSameMemory l.fn.self l.self;
 }
