@@ -1,6 +1,7 @@
 //! A layer over a device in memory, for the tests.
 ghost use Rattle.std.specs.Prelude.{Some};
 ghost use Rattle.layer_base.specs.View.View.{File};
+ghost use Rattle.layer_base.specs.declared.layer.Kind.TheVariants as kinds;
 
 use layer_base::{Device, DeviceFailed, Kind, Layer, MemDevice, Reading, Run, Why, run_of_reading};
 
@@ -14,7 +15,7 @@ pub(crate) struct Image {
 impl Layer for Image {
     ghost view = { λ image. Some (File image.device.bytes) };
 
-    ghost kind = { λ image. Kind.File };
+    ghost kind = { λ image. kinds.File };
 
     ghost faults = { λ image. image.device.faults };
 

@@ -89,10 +89,14 @@ fn expect_space<L: Ledger>(
     Ok(())
 }
 
+fn expect_in_cut(rt: &impl Abort, alloc: Global, cut: usize) -> Result<(), Fail> {
+    expect_space::<Brand>(rt, alloc, cut, Blank::new(1))
+}
+
 #[test]
 fn two_pages_in_every_cut(rt: HostRuntime) -> Result<(), Fail> {
     for cut in [1, 3, 0x10000] {
-        expect_space::<Brand>(&rt, rt.alloc(), cut, Blank::new(1))?;
+        expect_in_cut(&rt, rt.alloc(), cut)?;
     }
     Ok(())
 }
