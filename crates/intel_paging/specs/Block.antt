@@ -6,10 +6,11 @@ use Rattle.layer_base.specs.declared.space.Levels.{Levels}
 use Rattle.layer_base.specs.declared.space.Mapped.{Mapped}
 use Rattle.layer_base.specs.declared.space.Space.{Space}
 use Rattle.layer_base.specs.declared.space.Space.TheVariants.{Phys, Paged}
-use Rattle.intel_paging.specs.Entry.{Entry, entry_of}
-use Rattle.intel_paging.specs.Entry.Entry.{Hole, Frame, Table}
+use Rattle.intel_paging.specs.Entry.{entry_of}
 use Rattle.intel_paging.specs.Paging.{count_of, block_size, half_size, is_canonical, entry_address}
 use Rattle.intel_paging.specs.Word.{word}
+use Rattle.intel_paging.specs.declared.entry.Entry.{Entry}
+use Rattle.intel_paging.specs.declared.entry.Entry.TheVariants.{Hole, Frame, Table}
 
 -- the aligned block of a size around an address
 abbrev pub block_around : ℕ → ℕ → Option ℕ → Mapped

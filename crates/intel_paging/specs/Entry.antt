@@ -1,13 +1,9 @@
 -- What an entry of a table says. Reserved bits and access rights say nothing here.
-use Rattle.std.specs.Prelude.{ℕ, ◌/◌, ◌%◌, Bool, ◌&&◌, ◌||◌, ◌==◌, if◌then◌else◌, Option, None, Some}
+use Rattle.std.specs.Prelude.{ℕ, ◌^◌, ◌<◌, ◌≤◌, ◌/◌, ◌%◌, Bool, ◌&&◌, ◌||◌, ◌==◌, if◌then◌else◌, Option, None, Some}
 use Rattle.layer_base.specs.Space.{frame_of, page_address}
 use Rattle.intel_paging.specs.Paging.{block_size}
-
--- nothing is mapped, or a block of physical memory is, or the table of the next level down follows
-pub data Entry : Type 0 where
-  Hole : Entry
-  Frame : (to : ℕ) → Entry
-  Table : (at : ℕ) → Entry
+use Rattle.intel_paging.specs.declared.entry.Entry.{Entry}
+use Rattle.intel_paging.specs.declared.entry.Entry.TheVariants.{Hole, Frame, Table}
 
 -- bit 0: the entry maps something
 abbrev pub is_present : ℕ → Bool
@@ -25,3 +21,9 @@ present_entry level entry = if maps_a_block level entry then Frame (frame_of (bl
 abbrev pub entry_of : ℕ → Option ℕ → Entry
 entry_of level None = Hole
 entry_of level (Some entry) = if is_present entry then present_entry level entry else Hole
+
+-- Frames and tables lie below 2 ^ 52, and an entry of level 1 names no table.
+abbrev pub IsEntryOf : ℕ → Entry → Type 0
+IsEntryOf level Hole = Unit {0}
+IsEntryOf level (Frame to) = to < 2 ^ 52
+IsEntryOf level (Table at) = (2 ≤ level) × (at < 2 ^ 52)

@@ -1,8 +1,6 @@
 -- What a walk through the tables answers.
-use Rattle.std.specs.Prelude.{◌≡◌, ℕ, ◌+◌, ◌-◌, ◌%◌, ◌^◌, ◌<◌, ◌≤◌, Bool, false, Option, IfSome}
+use Rattle.std.specs.Prelude.{◌≡◌, ℕ, ◌+◌, ◌-◌, ◌%◌, ◌^◌, ◌<◌, ◌≤◌, Bool, false, IfSome}
 use Rattle.layer_base.specs.AddressSpace.{AddressSpace}
-use Rattle.layer_base.specs.View.{View, physical}
-use Rattle.layer_base.specs.declared.space.Levels.{Levels}
 use Rattle.layer_base.specs.declared.space.Mapped.{Mapped}
 use Rattle.layer_base.specs.declared.space.Space.{Space}
 use Rattle.layer_base.specs.declared.space.Space.TheVariants.{Phys, Paged}

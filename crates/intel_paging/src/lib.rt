@@ -2,6 +2,10 @@
 //! one table after another.
 #![tactic(auto)]
 
+mod block;
+mod entry;
+mod levels;
 mod tables;
+mod word;
 
 pub use tables::walk;

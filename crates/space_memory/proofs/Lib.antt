@@ -1,0 +1,7 @@
+pub mod Fitting
+pub mod Holes
+pub mod Memories
+pub mod Reading
+pub mod Spaces
+pub mod Told
+pub mod Words

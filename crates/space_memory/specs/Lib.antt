@@ -1,0 +1,5 @@
+pub mod Codes
+pub mod Hole
+pub mod InSpace
+pub mod State
+pub mod Through

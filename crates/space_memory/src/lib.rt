@@ -1,0 +1,13 @@
+//! True bytes and holes of any space of addresses. A space is read through its tables, and the layer below gives the
+//! bytes.
+#![tactic(auto)]
+
+mod memory;
+mod through;
+
+pub use memory::{Got, Memory, NoMemory};
+
+#[cfg(test)]
+mod test_layer;
+#[cfg(test)]
+mod tests;

@@ -1,0 +1,163 @@
+//! A memory: the spaces of an image, read through their tables.
+ghost use Rattle.std.specs.Prelude.{◌≡◌, ◌+◌, ◌*◌, ◌^◌, ◌<◌, ◌≤◌, [], false, None, length, IsErr, IfOk, IfErr, IfSome};
+ghost use Rattle.layer_base.specs.Counts.{HasCause};
+ghost use Rattle.layer_base.specs.Run.{IsWithin, IsTrueOf};
+ghost use Rattle.layer_base.specs.View.{physical};
+ghost use Rattle.intel_paging.specs.Block.{translation};
+ghost use Rattle.intel_paging.specs.Walk.{asks_tables, levels_of};
+ghost use Rattle.intel_paging.specs.Word.{word};
+ghost use Rattle.space_memory.specs.Hole.{IsGot, IsGotWithin};
+ghost use Rattle.space_memory.specs.InSpace.{in_space};
+ghost use Rattle.space_memory.specs.State.{IsSameMemory};
+
+use crate::through::{place_in, run_in};
+use byteorder::{ByteOrder, LittleEndian};
+use intel_paging::walk;
+use layer_base::{DeviceFailed, Layer, Run, Space, Steps};
+use std::alloc::Global;
+use std::marker::Model;
+use std::sync::ledger::Ledger;
+
+/// What a read found.
+#[derive(Clone, Copy, Debug, PartialEq, Eq)]
+pub enum Got {
+    /// All bytes that were asked for.
+    All,
+    /// The first address without a byte.
+    Hole { at: u64 },
+}
+
+/// The spaces of an image.
+#[derive(Drop)]
+pub struct Memory<Y: Layer> {
+    phys: Y,
+    capacity: usize,
+}
+
+/// There was no memory for a `Memory`. The layer is given back.
+#[derive(Drop)]
+pub struct NoMemory<Y: Layer> {
+    pub phys: Y,
+}
+
+impl<Y: Layer> Model for Memory<Y> {
+    ghost use Rattle.std.specs.Prelude.{[], None};
+    ghost use Rattle.space_memory.specs.State.{MemoryState};
+    ghost use Rattle.space_memory.specs.Codes.{state_code};
+
+    ghost Value = { MemoryState };
+
+    ghost coded = { state_code };
+
+    ghost view = { λ m. record { view = Y.view m.phys; kind = Y.kind m.phys; faults = Y.faults m.phys; calls = Y.calls m.phys; capacity = m.capacity; kept = []; last = None } };
+}
+
+impl<Y: Layer> Memory<Y> {
+    /// The memory of an image, which may keep so many runs of its spaces. None is kept yet.
+    pub fn new(_alloc: Global, phys: Y, capacity: usize) -> Result<Memory<Y>, NoMemory<Y>>
+        ensures ok { IfOk result (λ memory. memory ≡ record { view = Y.view phys; kind = Y.kind phys; faults = Y.faults phys; calls = Y.calls phys; capacity = capacity; kept = []; last = None }) }
+        ensures err { IfErr result (λ refused. refused.phys ≡ phys) }
+    {
+        Ok(Memory { phys, capacity })
+    }
+
+    /// Says what is at the addresses of a space from `at` on: at least one byte, and as many as the page and the layer
+    /// give, or a hole. After a failure what the buffer holds is open.
+    ///
+    /// It takes one step, and one more for each table that is read. It takes no memory.
+    pub fn run_at<L: Ledger>(
+        &mut self,
+        space: Space,
+        at: u64,
+        buf: &mut [u8],
+        steps: &mut Steps<L>,
+    ) -> Result<Run, DeviceFailed>
+        requires { 0 < length buf.old }
+        ensures within { IfOk result (IsWithin at (length buf.old)) }
+        ensures run { IfSome self.old.view (λ view. IfOk result (IsTrueOf (in_space (physical view) space) at buf.new)) }
+        ensures some_steps { steps.old < steps.new }
+        ensures most_steps { steps.new ≤ steps.old + 1 + levels_of space }
+        ensures one_step { asks_tables space at ≡ false → steps.new ≡ steps.old + 1 }
+        ensures most_calls { self.new.calls ≤ self.old.calls + 1 + 8 * levels_of space }
+        ensures one_call { asks_tables space at ≡ false → self.new.calls ≤ self.old.calls + 1 }
+        ensures memory { IsSameMemory self.old self.new }
+        ensures cause { HasCause self.old.faults self.new.faults (IsErr result) }
+    {
+        steps.tick();
+        let run = walk(&mut self.phys, space, at, steps)?;
+        run_in(&mut self.phys, &run, at, buf)
+    }
+
+    /// Fills the buffer with the bytes from `at` on, or says the first address that has none; the bytes before it stand
+    /// in the front of the buffer. After a failure what the buffer holds is open.
+    pub fn read<L: Ledger>(
+        &mut self,
+        space: Space,
+        at: u64,
+        buf: &mut [u8],
+        steps: &mut Steps<L>,
+    ) -> Result<Got, DeviceFailed>
+        requires { at + length buf.old ≤ 2 ^ 64 }
+        ensures got { IfSome self.old.view (λ view. IfOk result (IsGot (in_space (physical view) space) at buf.new)) }
+        ensures within { IfOk result (IsGotWithin at (length buf.old)) }
+        ensures most_steps { steps.new ≤ steps.old + length buf.old * (1 + levels_of space) }
+        ensures memory { IsSameMemory self.old self.new }
+        ensures cause { HasCause self.old.faults self.new.faults (IsErr result) }
+    {
+        let mut done = 0;
+        while done < buf.len() {
+            let next = at + done as u64;
+            match self.run_at(space, next, &mut buf[done..], steps)? {
+                Run::Present { count } => done += count,
+                Run::Absent { .. } => return Ok(Got::Hole { at: next }),
+            }
+        }
+        Ok(Got::All)
+    }
+
+    /// The little-endian number in the eight bytes from `at` on, none where one of them is absent.
+    pub fn word<L: Ledger>(
+        &mut self,
+        space: Space,
+        at: u64,
+        steps: &mut Steps<L>,
+    ) -> Result<Option<u64>, DeviceFailed>
+        requires { at + 8 ≤ 2 ^ 64 }
+        ensures word { IfSome self.old.view (λ view. IfOk result (λ number. number ≡ word (in_space (physical view) space) at)) }
+        ensures most_steps { steps.new ≤ steps.old + 8 * (1 + levels_of space) }
+        ensures memory { IsSameMemory self.old self.new }
+        ensures cause { HasCause self.old.faults self.new.faults (IsErr result) }
+    {
+        let mut bytes = [0; 8];
+        match self.read(space, at, &mut bytes, steps)? {
+            Got::All => Ok(Some(LittleEndian::read_u64(&bytes))),
+            Got::Hole { .. } => Ok(None),
+        }
+    }
+
+    /// The physical address of an address of a space, which may itself be absent, or none where nothing is mapped.
+    pub fn translate<L: Ledger>(
+        &mut self,
+        space: Space,
+        at: u64,
+        steps: &mut Steps<L>,
+    ) -> Result<Option<u64>, DeviceFailed>
+        ensures place { IfSome self.old.view (λ view. IfOk result (λ place. place ≡ translation (physical view) space at)) }
+        ensures most_steps { steps.new ≤ steps.old + levels_of space }
+        ensures memory { IsSameMemory self.old self.new }
+        ensures cause { HasCause self.old.faults self.new.faults (IsErr result) }
+    {
+        let run = walk(&mut self.phys, space, at, steps)?;
+        Ok(place_in(&run, at))
+    }
+
+    /// The image again, as the memory left it.
+    pub fn into_layer(self) -> Y
+        ensures view { Y.view result ≡ self.view }
+        ensures kind { Y.kind result ≡ self.kind }
+        ensures faults { Y.faults result ≡ self.faults }
+        ensures calls { Y.calls result ≡ self.calls }
+    {
+        self.phys
+    }
+}
