@@ -1,0 +1,15 @@
+-- Bytes that are written as hexadecimal digits.
+use Rattle.std.specs.Prelude.{ℕ, ◌==◌, if◌then◌else◌, List, length, Result, Ok, Err}
+use Rattle.hex.specs.Hex.{decode_of}
+use Rattle.hex.specs.declared.error.FromHexError.{FromHexError}
+use Rattle.command_words.specs.declared.fault.LineFault.{LineFault}
+use Rattle.command_words.specs.declared.fault.LineFault.TheVariants.{Hex}
+
+-- every cause for which digits stand for no bytes is one fault
+abbrev pub decoded : Result (List ℕ) FromHexError → Result (List ℕ) LineFault
+decoded (Ok bytes) = Ok bytes
+decoded (Err _) = Err Hex
+
+-- the bytes of an even number of hexadecimal digits, at least two
+abbrev pub needle_of : List ℕ → Result (List ℕ) LineFault
+needle_of word = if length word == 0 then Err Hex else decoded (decode_of word)
