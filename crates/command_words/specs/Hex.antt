@@ -1,5 +1,5 @@
 -- Bytes that are written as hexadecimal digits.
-use Rattle.std.specs.Prelude.{ℕ, ◌==◌, if◌then◌else◌, List, length, Result, Ok, Err}
+use Rattle.std.specs.Prelude.{ℕ, List, [], ◌∷◌, Result, Ok, Err}
 use Rattle.hex.specs.Hex.{decode_of}
 use Rattle.hex.specs.declared.error.FromHexError.{FromHexError}
 use Rattle.command_words.specs.declared.fault.LineFault.{LineFault}
@@ -12,4 +12,5 @@ decoded (Err _) = Err Hex
 
 -- the bytes of an even number of hexadecimal digits, at least two
 abbrev pub needle_of : List ℕ → Result (List ℕ) LineFault
-needle_of word = if length word == 0 then Err Hex else decoded (decode_of word)
+needle_of [] = Err Hex
+needle_of (digit ∷ digits) = decoded (decode_of (digit ∷ digits))

@@ -1,6 +1,8 @@
 pub mod Answer
 pub mod Command
 pub mod Hex
+pub mod Limits
+pub mod Line
 pub mod Name
 pub mod Number
 pub mod Place

@@ -4,6 +4,7 @@
 mod command;
 mod fault;
 mod hex_word;
+mod line;
 mod name_word;
 mod names;
 mod number;
@@ -14,4 +15,5 @@ mod words;
 
 pub use command::{AddrWord, Command, SpaceWord};
 pub use fault::LineFault;
+pub use line::parse_line;
 pub use names::Names;
