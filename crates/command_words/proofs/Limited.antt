@@ -1,5 +1,5 @@
 -- Every command keeps its limits.
-use Rattle.std.proofs.Common.{◌≡◌, ℕ, ◌+◌, ◌-◌, ◌*◌, ◌^◌, ◌<◌, ◌≤◌, Bool, true, false, nat_lt, if◌then◌else◌, List, [], ◌∷◌, length, Option, None, Some, Result, Ok, Err, IfOk, refl, arith, ap}
+use Rattle.std.proofs.Common.{◌≡◌, ℕ, ◌-◌, ◌*◌, ◌^◌, ◌<◌, ◌≤◌, Bool, true, false, nat_lt, if◌then◌else◌, List, [], ◌∷◌, length, Option, None, Some, Result, Ok, Err, IfOk, refl, arith, ap}
 use Rattle.std.proofs.lemmas.Bool.Decides.{nat_tests}
 use Rattle.std.proofs.lemmas.Result.{IfOk-at_ok}
 use Rattle.hex.proofs.HexLemmas.{decode_of-ok}
@@ -17,7 +17,7 @@ use Rattle.command_words.specs.Verb.{verb_of}
 use Rattle.command_words.specs.declared.command.AddrWord.{AddrWord}
 use Rattle.command_words.specs.declared.command.AddrWord.TheVariants as address
 use Rattle.command_words.specs.declared.command.Command.{Command}
-use Rattle.command_words.specs.declared.command.Command.TheVariants.{Nothing, Banners, Kernel, Pslist, Pstree, Lsmod, CheckSyscall, Quit, Maps, Lsof, Read, Dump, Show, Layout, Symbol, Near, Translate, Scan}
+use Rattle.command_words.specs.declared.command.Command.TheVariants.{Nothing, Banners, Kernel, Pslist, Pstree, Lsmod, CheckSyscall, Quit, Maps, Lsof, Layout, Symbol, Near}
 use Rattle.command_words.specs.declared.fault.LineFault.{LineFault}
 use Rattle.command_words.specs.declared.fault.LineFault.TheVariants.{Range}
 use Rattle.command_words.specs.declared.verb.Verb.{Verb}

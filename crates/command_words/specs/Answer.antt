@@ -1,7 +1,7 @@
 -- What a call that reads a line or a word of it answers.
 use Rattle.std.specs.Prelude.{◌≡◌, Result, Ok, Err}
 use Rattle.command_words.specs.declared.fault.LineFault.{LineFault}
-use Rattle.command_words.specs.declared.fault.LineFault.TheVariants.{TooLong, Unknown, Words, SpaceName, Number, Hex, Range, Memory}
+use Rattle.command_words.specs.declared.fault.LineFault.TheVariants.{Memory}
 
 -- the second step, where the first gave a value; else the fault of the first
 infixl 10 ◌>>=◌

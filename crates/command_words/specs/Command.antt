@@ -1,15 +1,14 @@
 -- What the words of a line ask for.
-use Rattle.std.specs.Prelude.{◌≡◌, ℕ, ◌+◌, ◌-◌, ◌^◌, ◌<◌, ◌≤◌, Bool, ◌==◌, nat_lt, if◌then◌else◌, List, [], ◌∷◌, length, Option, Some, None, Result, Ok, Err}
+use Rattle.std.specs.Prelude.{ℕ, ◌-◌, ◌^◌, nat_lt, if◌then◌else◌, List, [], ◌∷◌, length, Result, Ok, Err}
 use Rattle.command_words.specs.Answer.{◌>>=◌}
 use Rattle.command_words.specs.Hex.{needle_of}
 use Rattle.command_words.specs.Name.{name_of, type_of}
 use Rattle.command_words.specs.Number.{number_of}
 use Rattle.command_words.specs.Place.{space_of, address_of, is_stretch}
-use Rattle.command_words.specs.Verb.{verb_of}
 use Rattle.command_words.specs.declared.command.Command.{Command}
-use Rattle.command_words.specs.declared.command.Command.TheVariants.{Nothing, Banners, Kernel, Pslist, Pstree, Lsmod, CheckSyscall, Quit, Maps, Lsof, Read, Dump, Show, Layout, Symbol, Near, Translate, Scan}
+use Rattle.command_words.specs.declared.command.Command.TheVariants.{Banners, Kernel, Pslist, Pstree, Lsmod, CheckSyscall, Quit, Maps, Lsof, Read, Dump, Show, Layout, Symbol, Near, Translate, Scan}
 use Rattle.command_words.specs.declared.fault.LineFault.{LineFault}
-use Rattle.command_words.specs.declared.fault.LineFault.TheVariants.{Unknown, Words, Range}
+use Rattle.command_words.specs.declared.fault.LineFault.TheVariants.{Words, Range}
 use Rattle.command_words.specs.declared.verb.Verb.{Verb}
 use Rattle.command_words.specs.declared.verb.Verb.TheVariants as verb
 use Rattle.command_words.specs.declared.words.TheConstants.{MAX_READ, MAX_DUMP, MAX_PATH}

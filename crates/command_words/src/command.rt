@@ -37,15 +37,46 @@ pub enum Command {
     Lsmod,
     CheckSyscall,
     Quit,
-    Maps { pid: u64 },
-    Lsof { pid: u64 },
-    Read { space: SpaceWord, at: AddrWord, len: u64 },
-    Dump { space: SpaceWord, at: AddrWord, len: u64 },
+    Maps {
+        pid: u64,
+    },
+    Lsof {
+        pid: u64,
+    },
+    Read {
+        space: SpaceWord,
+        at: AddrWord,
+        len: u64,
+    },
+    Dump {
+        space: SpaceWord,
+        at: AddrWord,
+        len: u64,
+    },
     /// The command `type`: the value at a place of the type with a name, or of the member that a path leads to.
-    Show { space: SpaceWord, at: AddrWord, name: Name, path: Names },
-    Layout { name: Name },
-    Symbol { name: Name },
-    Near { number: u64 },
-    Translate { space: SpaceWord, at: AddrWord },
-    Scan { space: SpaceWord, at: AddrWord, len: u64, needle: Name },
+    Show {
+        space: SpaceWord,
+        at: AddrWord,
+        name: Name,
+        path: Names,
+    },
+    Layout {
+        name: Name,
+    },
+    Symbol {
+        name: Name,
+    },
+    Near {
+        number: u64,
+    },
+    Translate {
+        space: SpaceWord,
+        at: AddrWord,
+    },
+    Scan {
+        space: SpaceWord,
+        at: AddrWord,
+        len: u64,
+        needle: Name,
+    },
 }

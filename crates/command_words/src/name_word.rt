@@ -12,10 +12,7 @@ use std::alloc::Global;
 fn escaped(high: u8, low: u8) -> Result<u8, LineFault>
     ensures { result ≡ escaped high low }
 {
-    match (
-        char::from(high).to_digit(16),
-        char::from(low).to_digit(16),
-    ) {
+    match (char::from(high).to_digit(16), char::from(low).to_digit(16)) {
         (Some(high), Some(low)) => Ok((high * 16 + low) as u8),
         _ => Err(LineFault::Hex),
     }

@@ -30,7 +30,9 @@ fn with_digit(base: u32, value: u64, byte: u8) -> Option<u64>
     ensures { result ≡ with_digit base value byte }
 {
     let digit = char::from(byte).to_digit(base)?;
-    value.checked_mul(u64::from(base))?.checked_add(u64::from(digit))
+    value
+        .checked_mul(u64::from(base))?
+        .checked_add(u64::from(digit))
 }
 
 /// Reads a number: decimal digits, or `0x` and hexadecimal digits of either case.

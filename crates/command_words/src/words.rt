@@ -89,7 +89,12 @@ fn show_of(alloc: Global, space: &[u8], at: &[u8], name: &[u8]) -> Result<Comman
     if MAX_PATH < path.items().len() {
         return Err(LineFault::Range);
     }
-    Ok(Command::Show { space, at, name, path })
+    Ok(Command::Show {
+        space,
+        at,
+        name,
+        path,
+    })
 }
 
 /// `translate SPACE ADDR`.
@@ -118,9 +123,13 @@ fn scan_of(
     if !is_stretch(u64::MAX, &at, len) {
         return Err(LineFault::Range);
     }
-    Ok(Command::Scan { space, at, len, needle })
+    Ok(Command::Scan {
+        space,
+        at,
+        len,
+        needle,
+    })
 }
-
 
 fn read_words(alloc: Global, words: &[&[u8]]) -> Result<Command, LineFault>
     ensures { Gives result (of_three read_of (map (λ word. word.now) words.now)) }
@@ -183,11 +192,21 @@ pub(crate) fn command_of_verb(
         Verb::Lsmod => alone(words, Command::Lsmod),
         Verb::CheckSyscall => alone(words, Command::CheckSyscall),
         Verb::Quit => alone(words, Command::Quit),
-        Verb::Maps => Ok(Command::Maps { pid: number_alone(words)? }),
-        Verb::Lsof => Ok(Command::Lsof { pid: number_alone(words)? }),
-        Verb::Near => Ok(Command::Near { number: number_alone(words)? }),
-        Verb::Layout => Ok(Command::Layout { name: name_alone(alloc, words)? }),
-        Verb::Symbol => Ok(Command::Symbol { name: name_alone(alloc, words)? }),
+        Verb::Maps => Ok(Command::Maps {
+            pid: number_alone(words)?,
+        }),
+        Verb::Lsof => Ok(Command::Lsof {
+            pid: number_alone(words)?,
+        }),
+        Verb::Near => Ok(Command::Near {
+            number: number_alone(words)?,
+        }),
+        Verb::Layout => Ok(Command::Layout {
+            name: name_alone(alloc, words)?,
+        }),
+        Verb::Symbol => Ok(Command::Symbol {
+            name: name_alone(alloc, words)?,
+        }),
         Verb::Read => read_words(alloc, words),
         Verb::Dump => dump_words(alloc, words),
         Verb::Show => show_words(alloc, words),

@@ -1,4 +1,4 @@
-use Rattle.std.proofs.Common.{[], ◌∷◌, Err, Ok, ap}
+use Rattle.std.proofs.Common.{[], ◌∷◌, Ok, ap}
 use Rattle.command_words.specs.Answer.{◌>>=◌}
 use Rattle.command_words.specs.Name.{name_of}
 use Rattle.command_words.proofs.Joined.{joined-more, joined-fails}

@@ -1,6 +1,5 @@
-use Rattle.std.proofs.Common.{◌<◌, length, sym, ◌∙◌, arith}
-use Rattle.std.proofs.lemmas.Bool.Decides.{nat_tests}
-use Rattle.command_words.proofs.Numbers.{digits_of-some, digits_of-next, digits_of-none, digits_of-all}
+use Rattle.std.proofs.Common.{sym, ◌∙◌, arith}
+use Rattle.command_words.proofs.Numbers.{digits_of-none}
 use Rattle.command_words.proofs.number.digits_of.Goals as goal
 
 pub returns-in_default : goal.returns-in_default
