@@ -1,0 +1,4 @@
+pub mod Joined
+pub mod Limited
+pub mod Numbers
+pub mod Steps

@@ -1,0 +1,9 @@
+pub mod Answer
+pub mod Command
+pub mod Hex
+pub mod Limits
+pub mod Line
+pub mod Name
+pub mod Number
+pub mod Place
+pub mod Verb
