@@ -9,4 +9,3 @@ pub mod Texts
 pub mod Cutting
 pub mod Cells
 pub mod Told
-pub mod Memories

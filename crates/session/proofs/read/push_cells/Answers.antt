@@ -5,7 +5,7 @@ use Rattle.layer_base.proofs.BytesFrom.{bytes_from-none}
 use Rattle.space_memory.specs.InSpace.{in_space}
 use Rattle.session.specs.Read.{AddsCells}
 use Rattle.session.proofs.Cells.{AddsCells-more}
-use Rattle.session.proofs.Memories.{IsSameMemory-refl, IsSameMemory-trans}
+use Rattle.space_memory.proofs.Memories.{IsSameMemory-refl, IsSameMemory-trans}
 use Rattle.session.proofs.Told.{IfSome-always, IfSome-both}
 use Rattle.session.proofs.read.push_cells.Goals as goal
 

@@ -10,7 +10,7 @@ use Rattle.layer_base.proofs.BytesFrom.{bytes_from-none}
 use Rattle.hex_text.specs.DumpRow.{dump_text}
 use Rattle.hex_text.proofs.DumpRows.{dump_text-none, dump_text-next, dump_text-front, whole-rows, whole-pieces}
 use Rattle.space_memory.specs.InSpace.{in_space}
-use Rattle.session.proofs.Memories.{IsSameMemory-refl, IsSameMemory-trans}
+use Rattle.space_memory.proofs.Memories.{IsSameMemory-refl, IsSameMemory-trans}
 use Rattle.session.proofs.Told.{IfSome-always, IfSome-both}
 use Rattle.session.proofs.read.write_read.Goals as goal
 

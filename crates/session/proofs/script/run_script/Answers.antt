@@ -6,7 +6,7 @@ use Rattle.layer_base.specs.View.{physical}
 use Rattle.std.specs.Io.KnownBytes.{Appends, Consumes, IsAtEnd}
 use Rattle.session.specs.Turn.{turn_text, turn_line, rest_text}
 use Rattle.session.proofs.Ending.{script-failed, turn-failed, script-ended, script-too_long}
-use Rattle.session.proofs.Memories.{IsSameMemory-trans}
+use Rattle.space_memory.proofs.Memories.{IsSameMemory-trans}
 use Rattle.session.proofs.Told.{IfSome-both}
 use Rattle.session.proofs.Underway.{Underway-next}
 use Rattle.session.proofs.script.run_script.Goals as goal
