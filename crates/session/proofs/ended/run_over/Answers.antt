@@ -27,5 +27,5 @@ returns-clause-ran g c =
     let words = map string_bytes c.args.words.now in
     let formats = c.args.formats.now in
     let accepted : are_accepted words ≡ true = sym c.if-not-are_accepted.ensures in
-    IfSome_then (g.Y.Layer.view c.args.image) c.run_image-status.ensures.ran (λ before told.
+    IfSome_then (g.Y.Layer.view c.args.image) c.run_image.ensures.ran (λ before told.
     IfSome_then (g.S.Source.left c.args.script.now) told (λ bytes ran symbols. rw (run_of-accepted words formats before symbols bytes accepted) ran))

@@ -5,7 +5,7 @@ use Rattle.layer_base.specs.Known.{AppendsPrefix, Writes}
 use Rattle.layer_base.specs.View.{physical}
 use Rattle.std.specs.Io.KnownBytes.{Appends, Consumes, IsAtEnd}
 use Rattle.session.specs.Turn.{turn_text, turn_line, rest_text}
-use Rattle.session.proofs.Ending.{script-failed, turn-failed, script-ended, script-too_long}
+use Rattle.session.proofs.Ending.{script-failed, turn-failed, script-ended, script-quit, script-too_long}
 use Rattle.space_memory.proofs.Memories.{IsSameMemory-trans}
 use Rattle.session.proofs.Told.{IfSome-both}
 use Rattle.session.proofs.Underway.{Underway-next}
@@ -73,3 +73,11 @@ returns-in-Ok-Some-take_byte-clause-ran g c =
     rw c.status_after-in-Ok-Some-take_byte.ensures (IfSome_then c.args.memory.now.view c.loop.invariant.underway (λ view told.
     IfSome_then (g.S.Source.left c.args.script.now) told (λ bytes underway.
     script-too_long (physical view) bytes _ _ _ _ c.loop.line c.loop.counter underway byte (g.O.Sink.written c.write_text.new.out) c.write_text.result most taken c.write_text.ensures.text)))
+
+pub returns-in-Ok-Quit-clause-ran : goal.returns-in-Ok-Quit-clause-ran
+returns-in-Ok-Quit-clause-ran g c =
+    let taken : Consumes (g.S.Source.left c.loop.script) (g.S.Source.left c.take_byte.new.script) (c.in-Ok-Some.byte ∷ []) = rw c.in-Ok-Some.field-0-is at c.in-Ok-Some.ensures.taken in
+    let text : IfSome c.args.memory.now.view (λ view. Appends (g.O.Sink.written c.loop.out) (g.O.Sink.written c.take_in.new.out) (turn_text (physical view) c.loop.line c.in-Ok-Some.byte)) = rw c.loop.invariant.memory.same_view at c.in-Ok-Quit.ensures.text in
+    IfSome-both c.args.memory.now.view c.loop.invariant.underway text (λ view told written.
+    IfSome_then (g.S.Source.left c.args.script.now) told (λ bytes underway.
+    script-quit (physical view) bytes _ _ _ _ c.loop.line c.loop.counter underway c.in-Ok-Some.byte (g.O.Sink.written c.take_in.new.out) c.loop-test.true taken written (sym c.in-Ok-Quit.field-0-is ∙ c.in-Ok-Quit.ensures.flow)))
