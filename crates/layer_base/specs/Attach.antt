@@ -2,7 +2,7 @@
 use Rattle.std.specs.Prelude.{◌≡◌, List, Option, Some, Result, Ok, Err}
 use Rattle.layer_base.specs.AddressSpace.{AddressSpace}
 use Rattle.layer_base.specs.Lime.{lime}
-use Rattle.layer_base.specs.View.{View, physical}
+use Rattle.layer_base.specs.View.{View}
 use Rattle.layer_base.specs.View.View.{Ranges}
 use Rattle.layer_base.specs.Why.{RefusesAs}
 use Rattle.layer_base.specs.declared.layer.Kind.{Kind}
