@@ -1,9 +1,10 @@
 //! The walk through the tables.
 ghost use Rattle.std.specs.Prelude.{◌≡◌, ◌+◌, ◌-◌, ◌*◌, ◌<◌, ◌≤◌, ◌^◌, true, false, IsErr, IfOk, IfSome};
+ghost use Rattle.layer_base.specs.AddressSpace.{AddressSpace};
 ghost use Rattle.layer_base.specs.Counts.{HasCause};
 ghost use Rattle.layer_base.specs.SameLayer.{IsSameLayer};
 ghost use Rattle.layer_base.specs.View.{physical};
-ghost use Rattle.intel_paging.specs.Block.{block_from};
+ghost use Rattle.intel_paging.specs.Block.{block_of, block_from};
 ghost use Rattle.intel_paging.specs.Entry.{IsEntryOf, entry_of};
 ghost use Rattle.intel_paging.specs.Paging.{entry_address};
 ghost use Rattle.intel_paging.specs.Walk.{Holds, IsBlock, IsAligned, asks_tables, levels_of};
@@ -31,6 +32,7 @@ pub fn walk<Y: Layer, L: Ledger>(
 ) -> Result<Mapped, DeviceFailed>
     ensures holds { IfOk result (λ run. Holds run at) }
     ensures block { IfSome (Y.view phys.old) (λ view. IfOk result (IsBlock (physical view) space)) }
+    ensures without_tables { asks_tables space at ≡ false → IfOk result (λ run. (memory : AddressSpace) → block_of memory space at ≡ run) }
     ensures aligned { asks_tables space at ≡ true → IfOk result IsAligned }
     ensures some_steps { asks_tables space at ≡ true → steps.old < steps.new }
     ensures most_steps { steps.new ≤ steps.old + levels_of space }
