@@ -1,7 +1,9 @@
 -- The laws of blocks.
-use Rattle.std.proofs.Common.{◌≡◌, ℕ, zero, suc, ◌+◌, ◌-◌, ◌*◌, ◌/◌, ◌%◌, ◌^◌, ◌<◌, ◌≤◌, true, false, Option, None, Some, refl, sym, ap, ◌∙◌, arith, pow_pos}
+use Rattle.std.proofs.Common.{◌≡◌, ℕ, zero, suc, ◌+◌, ◌-◌, ◌*◌, ◌/◌, ◌%◌, ◌^◌, ◌<◌, ◌≤◌, min, max, Bool, true, false, Option, None, Some, ◌⊎◌, inl, inr, refl, sym, ap, ◌∙◌, arith, pow_pos}
 use Rattle.std.specs.Option.{IfSome}
+use Rattle.std.specs.Prelude.{if◌then◌else◌}
 use Rattle.std.proofs.Math.Nat.{div-div-eq-div-mul, mul-mod_left}
+use Rattle.std.proofs.lemmas.Bool.{cases_lt}
 use Rattle.std.proofs.lemmas.Bool.Decides.{nat_tests}
 use Rattle.std.proofs.lemmas.Nat.{div-mul-add, pow-add}
 use Rattle.layer_base.specs.AddressSpace.{AddressSpace}
@@ -9,6 +11,7 @@ use Rattle.layer_base.specs.Space.{page_address}
 use Rattle.layer_base.specs.declared.space.Levels.{Levels}
 use Rattle.layer_base.specs.declared.space.Levels.TheVariants.{Four, Five}
 use Rattle.layer_base.specs.declared.space.Mapped.{Mapped}
+use Rattle.layer_base.specs.declared.space.Space.{Space}
 use Rattle.layer_base.specs.declared.space.Space.TheVariants.{Phys, Paged}
 use Rattle.intel_paging.specs.Block.{block_around, block_by, block_from, block_of, non_canonical}
 use Rattle.intel_paging.specs.Entry.{entry_of}
@@ -123,3 +126,29 @@ pub block_from-level : (memory : AddressSpace) (level table a : ℕ) → 1 ≤ l
 unfolding block_from
 block_from-level memory zero table a least = absurd (omega arith)
 block_from-level memory (suc level) table a least = let below : suc level - 1 ≡ level = omega arith in rw below refl
+
+-- blocks that hold an address in common are one
+pub IsBlock-meeting : (memory : AddressSpace) (space : Space) (run other : Mapped) (a : ℕ) → IsBlock memory space run → IsBlock memory space other → Holds run a → Holds other a → run ≡ other
+IsBlock-meeting memory space run other a is other_is here there = sym (is a here) ∙ other_is a there
+
+-- the block of an address is the block of each address that it holds
+pub IsBlock-block_of : (memory : AddressSpace) (space : Space) (a : ℕ) → IsBlock memory space (block_of memory space a)
+unfolding block_of
+IsBlock-block_of memory Phys a = IsBlock-Phys memory
+IsBlock-block_of memory (Paged root levels) a = by_bits (is_canonical levels a) refl
+  where
+    by_bits : (canonical : Bool) → is_canonical levels a ≡ canonical
+        → IsBlock memory (Paged root levels) (if canonical then block_from memory (count_of levels) (page_address root) a else non_canonical levels)
+    by_bits true is = IsBlock-canonical memory root levels a (block_from memory (count_of levels) (page_address root) a) is refl
+    by_bits false is = IsBlock-non_canonical memory root levels
+
+-- two blocks of a space are equal, or no address is in both
+pub block_of-apart : (memory : AddressSpace) (space : Space) (a b : ℕ)
+    → (block_of memory space a ≡ block_of memory space b) ⊎ ((c : ℕ) → Holds (block_of memory space a) c → Holds (block_of memory space b) c → ⊥)
+block_of-apart memory space a b = apart (block_of memory space a) (block_of memory space b) (λ c here there. IsBlock-meeting memory space (block_of memory space a) (block_of memory space b) c (IsBlock-block_of memory space a) (IsBlock-block_of memory space b) here there)
+  where
+    apart : (run other : Mapped) → ((c : ℕ) → Holds run c → Holds other c → run ≡ other) → (run ≡ other) ⊎ ((c : ℕ) → Holds run c → Holds other c → ⊥)
+    apart run other same = elim (cases_lt (min run.last other.last) (max run.first other.first)) [
+      | inl none ↦ inr (λ c here there. absurd (omega (arith, here.first, here.last, there.first, there.last)))
+      | inr some ↦ inl (same (max run.first other.first) (record { first = omega arith; last = omega arith }) (record { first = omega arith; last = omega arith }))
+    ]

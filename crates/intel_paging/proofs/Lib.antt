@@ -1,4 +1,4 @@
 pub mod Blocks
 pub mod Filling
-pub mod Rows
+pub mod SmallTables
 pub mod Walking

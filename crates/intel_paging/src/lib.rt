@@ -9,3 +9,6 @@ mod tables;
 mod word;
 
 pub use tables::walk;
+
+#[cfg(test)]
+mod tests;

@@ -24,6 +24,9 @@ use std::sync::ledger::Ledger;
 /// An entry is read in one call of the layer where that gives it whole, and in at most eight else. Each entry is one
 /// step, of which there is one for each level at most, and none where the space is physical or the address is not
 /// canonical. It takes no memory.
+///
+/// `DeviceFailed` comes only where a call of the layer failed, whose count of faults then rose. The layer shows the same
+/// after every answer.
 pub fn walk<Y: Layer, L: Ledger>(
     phys: &mut Y,
     space: Space,

@@ -1,4 +1,4 @@
-use Rattle.std.proofs.Common.{◌≡◌, false, refl, sym}
+use Rattle.std.proofs.Common.{refl, sym}
 use Rattle.intel_paging.specs.Block.{block_of}
 use Rattle.intel_paging.proofs.Walking.{by_phys, by_bits, by_tables}
 use Rattle.intel_paging.proofs.tables.walk.Goals as goal
