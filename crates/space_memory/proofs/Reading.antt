@@ -21,10 +21,6 @@ use Rattle.space_memory.proofs.Told.{IfSome-both}
 pub enough : (done n cost start before now : ℕ) → 1 ≤ n → before ≤ start + done * cost → now ≤ before + cost → now ≤ start + (done + n) * cost
 enough done n cost start before now some so_far took = let paid : 1 * cost ≤ n * cost = mul-le-mul_right cost some in omega (arith, paid)
 
--- the bytes of a run lie within the buffer
-pub within-more : (done n : ℕ) (buf new rest : List ℕ) → done ≤ length buf → n ≤ length new → done + n ≤ length (take done buf ++ (new ++ rest))
-within-more done n buf new rest inside fits = omega (arith, length-take {A = ℕ}, length-append {A = ℕ})
-
 module _ (memory : AddressSpace) (at done : ℕ) (buf : List ℕ) (inside : done ≤ length buf) (so_far : bytes_from memory at done ≡ map Some (take done buf)) where
   size : length (take done buf) ≡ done
   size = omega (arith, length-take done buf)

@@ -27,7 +27,11 @@ pub enum Got {
     Hole { at: u64 },
 }
 
-/// The spaces of an image.
+/// The spaces of an image: its physical memory, and those that tables in it map (Intel SDM, volume 3, "Paging").
+///
+/// Every call leaves what the image shows, the kind that it is read as and the capacity as they were, and no call lets a
+/// count fall. `DeviceFailed` comes only where a call of the layer failed, whose count of faults then rose; the same call
+/// can be made again.
 #[derive(Drop)]
 pub struct Memory<Y: Layer> {
     phys: Y,
@@ -53,7 +57,8 @@ impl<Y: Layer> Model for Memory<Y> {
 }
 
 impl<Y: Layer> Memory<Y> {
-    /// The memory of an image, which may keep so many runs of its spaces. None is kept yet.
+    /// The memory of an image, with room for so many runs of its spaces, none of which is kept. A refusal gives the layer
+    /// back.
     pub fn new(_alloc: Global, phys: Y, capacity: usize) -> Result<Memory<Y>, NoMemory<Y>>
         ensures ok { IfOk result (λ memory. memory ≡ record { view = Y.view phys; kind = Y.kind phys; faults = Y.faults phys; calls = Y.calls phys; capacity = capacity; kept = []; last = None }) }
         ensures err { IfErr result (λ refused. refused.phys ≡ phys) }
@@ -89,7 +94,7 @@ impl<Y: Layer> Memory<Y> {
     }
 
     /// Fills the buffer with the bytes from `at` on, or says the first address that has none; the bytes before it stand
-    /// in the front of the buffer. After a failure what the buffer holds is open.
+    /// in the front of the buffer. After a failure what the buffer holds is open. It takes no memory.
     pub fn read<L: Ledger>(
         &mut self,
         space: Space,
@@ -115,7 +120,7 @@ impl<Y: Layer> Memory<Y> {
         Ok(Got::All)
     }
 
-    /// The little-endian number in the eight bytes from `at` on, none where one of them is absent.
+    /// The little-endian number in the eight bytes from `at` on, none where one of them is absent. It takes no memory.
     pub fn word<L: Ledger>(
         &mut self,
         space: Space,
@@ -135,7 +140,8 @@ impl<Y: Layer> Memory<Y> {
         }
     }
 
-    /// The physical address of an address of a space, which may itself be absent, or none where nothing is mapped.
+    /// The physical address of an address of a space, which may itself be absent, or none where nothing is mapped. It
+    /// takes one step for each table that is read, and no memory.
     pub fn translate<L: Ledger>(
         &mut self,
         space: Space,

@@ -85,6 +85,15 @@ fn expect_space<L: Ledger>(
             "at {at}"
         );
     }
+    let mut page = [0; 64];
+    assert_eq!(rt;
+        memory.run_at(space, 0x1ff0, &mut page, &mut steps),
+        Ok(Run::Present { count: cut.min(16) })
+    );
+    assert_eq!(rt;
+        memory.run_at(space, 0x2001, &mut page, &mut steps),
+        Ok(Run::Absent { last: 0x2fff })
+    );
     let _ = memory.into_layer();
     Ok(())
 }

@@ -7,7 +7,7 @@ use Rattle.space_memory.proofs.memory.Memory.read.Given as goal
 -- the bytes so far stand in front
 abbrev pub invariant-loop-done : goal.invariant-loop-done
 invariant-loop-done g l = record {
-  within : l.done ≤ length l.buf;
+  within : l.done ≤ length l.fn.buf;
   bytes : AreRead l.fn.self.view l.space l.at l.done l.buf;
   steps : l.steps ≤ l.fn.steps + l.done * (1 + levels_of l.space);
   memory : IsSameMemory l.fn.self l.self;
