@@ -13,23 +13,27 @@ use Rattle.command_words.specs.declared.verb.Verb.{Verb}
 use Rattle.command_words.specs.declared.verb.Verb.TheVariants as verb
 use Rattle.command_words.specs.declared.words.TheConstants.{MAX_READ, MAX_DUMP, MAX_PATH}
 
--- what a number of words says; another number of words is a fault
+-- a value that no words follow; any word is one too many
 abbrev pub of_none : {A : Type 0} → A → List (List ℕ) → Result A LineFault
 of_none value [] = Ok value
 of_none value _ = Err (Words 0)
 
+-- what one word says; another number of words is a fault
 abbrev pub of_one : {A : Type 0} → (List ℕ → Result A LineFault) → List (List ℕ) → Result A LineFault
 of_one meaning (word ∷ []) = meaning word
 of_one meaning _ = Err (Words 1)
 
+-- what two words say; another number of words is a fault
 abbrev pub of_two : {A : Type 0} → (List ℕ → List ℕ → Result A LineFault) → List (List ℕ) → Result A LineFault
 of_two meaning (first ∷ second ∷ []) = meaning first second
 of_two meaning _ = Err (Words 2)
 
+-- what three words say; another number of words is a fault
 abbrev pub of_three : {A : Type 0} → (List ℕ → List ℕ → List ℕ → Result A LineFault) → List (List ℕ) → Result A LineFault
 of_three meaning (first ∷ second ∷ third ∷ []) = meaning first second third
 of_three meaning _ = Err (Words 3)
 
+-- what four words say; another number of words is a fault
 abbrev pub of_four : {A : Type 0} → (List ℕ → List ℕ → List ℕ → List ℕ → Result A LineFault) → List (List ℕ) → Result A LineFault
 of_four meaning (first ∷ second ∷ third ∷ fourth ∷ []) = meaning first second third fourth
 of_four meaning _ = Err (Words 4)

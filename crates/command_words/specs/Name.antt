@@ -25,7 +25,7 @@ joined list_of (word ∷ words) = do
   lists ← joined list_of words
   Ok (list ++ lists)
 
--- the bytes before the first `%`, and those that the pieces behind each `%` stand for
+-- the bytes before the first `%`, which are the first piece, and those that the pieces behind each `%` stand for
 abbrev pub name_of_pieces : List (List ℕ) → Result (List ℕ) LineFault
 name_of_pieces [] = Ok []
 name_of_pieces (plain ∷ pieces) = do
@@ -40,7 +40,7 @@ name_of word = name_of_pieces (slice_split (λ byte. byte == 37) word)
 abbrev pub names_of : List (List ℕ) → Result (List (List ℕ)) LineFault
 names_of words = joined (λ word. name_of word >>= λ name. Ok (name ∷ [])) words
 
--- the name before the first dot, and the path behind it
+-- the name before the first dot, which is the first part, and the path behind it
 abbrev pub type_of_parts : List (List ℕ) → Result (List ℕ × List (List ℕ)) LineFault
 type_of_parts [] = Ok ([], [])
 type_of_parts (first ∷ rest) = do

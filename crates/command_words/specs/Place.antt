@@ -13,7 +13,7 @@ use Rattle.command_words.specs.declared.command.SpaceWord.TheVariants.{Phys, Ker
 use Rattle.command_words.specs.declared.fault.LineFault.{LineFault}
 use Rattle.command_words.specs.declared.fault.LineFault.TheVariants.{SpaceName, Number}
 
--- a space made of a number; a word that is no number is no space
+-- a space made of a number; where a word is no number, it names no space
 abbrev pub space_with : (ℕ → SpaceWord) → Result ℕ LineFault → Result SpaceWord LineFault
 space_with space (Ok number) = Ok (space number)
 space_with space (Err _) = Err SpaceName
@@ -26,7 +26,7 @@ task_of pid = space_with Task (number_of pid)
 abbrev pub paged_of : List ℕ → Levels → Result SpaceWord LineFault
 paged_of root levels = space_with (λ number. Root number levels) (number_of root)
 
--- whether a word ends with two bytes
+-- whether a word ends with some bytes
 abbrev pub ends_with : List ℕ → List ℕ → Bool
 ends_with word end = bytes_eq (drop (length word - length end) word) end
 

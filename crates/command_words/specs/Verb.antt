@@ -1,9 +1,8 @@
 -- The words that name a command.
-use Rattle.std.specs.Prelude.{ℕ, List, codes, Option, find}
+use Rattle.std.specs.Prelude.{ℕ, List, [], ◌∷◌, codes, Option, find}
 use Rattle.std.specs.Str.{bytes_eq}
 use Rattle.command_words.specs.declared.verb.Verb.{Verb}
 use Rattle.command_words.specs.declared.verb.Verb.TheVariants.{Banners, Kernel, Pslist, Pstree, Lsmod, CheckSyscall, Quit, Maps, Lsof, Read, Dump, Show, Layout, Symbol, Near, Translate, Scan}
-use Rattle.command_words.specs.declared.verb.TheConstants.{VERBS}
 
 -- the word that names a command
 abbrev pub word_of : Verb → List ℕ
@@ -25,6 +24,11 @@ word_of Near = codes "near"
 word_of Translate = codes "translate"
 word_of Scan = codes "scan"
 
+-- every command
+abbrev pub verbs : List Verb
+verbs =
+    Banners ∷ Kernel ∷ Pslist ∷ Pstree ∷ Lsmod ∷ CheckSyscall ∷ Quit ∷ Maps ∷ Lsof ∷ Read ∷ Dump ∷ Show ∷ Layout ∷ Symbol ∷ Near ∷ Translate ∷ Scan ∷ []
+
 -- the command that a word names
 abbrev pub verb_of : List ℕ → Option Verb
-verb_of word = find (λ verb. bytes_eq (word_of verb) word) VERBS
+verb_of word = find (λ verb. bytes_eq (word_of verb) word) verbs

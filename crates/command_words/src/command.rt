@@ -25,54 +25,71 @@ pub enum AddrWord {
     Symbol(Name),
 }
 
-/// What a line asks for.
+/// What a line asks for. Where an address is a number, so many bytes from it on end at or below the last address.
 #[derive(Debug, Drop)]
 pub enum Command {
     /// Nothing: the line has no words, or is a comment.
     Nothing,
+    /// The banners in physical memory.
     Banners,
+    /// Where the kernel is.
     Kernel,
+    /// The tasks, in the order of their list.
     Pslist,
+    /// The tasks, as a tree.
     Pstree,
+    /// The loaded modules.
     Lsmod,
+    /// The table of system calls.
     CheckSyscall,
+    /// The end of the script.
     Quit,
+    /// The areas of the task with a PID.
     Maps {
         pid: u64,
     },
+    /// The open files of the task with a PID.
     Lsof {
         pid: u64,
     },
+    /// A dump of 1 to 1,048,576 bytes from an address on.
     Read {
         space: SpaceWord,
         at: AddrWord,
         len: u64,
     },
+    /// 1 to 68,719,476,736 bytes from an address on, for the dump file.
     Dump {
         space: SpaceWord,
         at: AddrWord,
         len: u64,
     },
-    /// The command `type`: the value at a place of the type with a name, or of the member that a path leads to.
+    /// The command `type`: the value at an address, of the type with a name or of the member of it that a path of at
+    /// most 256 names leads to.
     Show {
         space: SpaceWord,
         at: AddrWord,
         name: Name,
         path: Names,
     },
+    /// The fields of the type with a name.
     Layout {
         name: Name,
     },
+    /// The address and the type of the symbol with a name.
     Symbol {
         name: Name,
     },
+    /// The last symbol at or below an address.
     Near {
         number: u64,
     },
+    /// The physical address of an address.
     Translate {
         space: SpaceWord,
         at: AddrWord,
     },
+    /// The places of the needle, at least one byte, among the bytes from an address on, at least one.
     Scan {
         space: SpaceWord,
         at: AddrWord,

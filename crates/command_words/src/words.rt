@@ -131,6 +131,7 @@ fn scan_of(
     })
 }
 
+/// The words behind `read`.
 fn read_words(alloc: Global, words: &[&[u8]]) -> Result<Command, LineFault>
     ensures { Gives result (of_three read_of (map (λ word. word.now) words.now)) }
 {
@@ -140,6 +141,7 @@ fn read_words(alloc: Global, words: &[&[u8]]) -> Result<Command, LineFault>
     }
 }
 
+/// The words behind `dump`.
 fn dump_words(alloc: Global, words: &[&[u8]]) -> Result<Command, LineFault>
     ensures { Gives result (of_three dump_of (map (λ word. word.now) words.now)) }
 {
@@ -149,6 +151,7 @@ fn dump_words(alloc: Global, words: &[&[u8]]) -> Result<Command, LineFault>
     }
 }
 
+/// The words behind `type`.
 fn show_words(alloc: Global, words: &[&[u8]]) -> Result<Command, LineFault>
     ensures { Gives result (of_three show_of (map (λ word. word.now) words.now)) }
 {
@@ -158,6 +161,7 @@ fn show_words(alloc: Global, words: &[&[u8]]) -> Result<Command, LineFault>
     }
 }
 
+/// The words behind `translate`.
 fn translate_words(alloc: Global, words: &[&[u8]]) -> Result<Command, LineFault>
     ensures { Gives result (of_two translate_of (map (λ word. word.now) words.now)) }
 {
@@ -167,6 +171,7 @@ fn translate_words(alloc: Global, words: &[&[u8]]) -> Result<Command, LineFault>
     }
 }
 
+/// The words behind `scan`.
 fn scan_words(alloc: Global, words: &[&[u8]]) -> Result<Command, LineFault>
     ensures { Gives result (of_four scan_of (map (λ word. word.now) words.now)) }
 {
