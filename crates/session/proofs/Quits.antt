@@ -1,5 +1,5 @@
 -- The part of a script that is run: through its first `quit`.
-use Rattle.std.proofs.Common.{◌≡◌, ℕ, Bool, true, false, cond, eqb, List, [], ◌∷◌, ◌++◌, refl, sym, ◌∙◌, ap, append_assoc}
+use Rattle.std.proofs.Common.{◌≡◌, ℕ, true, false, cond, List, [], ◌∷◌, ◌++◌, refl, sym, ◌∙◌, ap, append_assoc}
 use Rattle.std.proofs.lemmas.List.{append-nil}
 use Rattle.session.specs.Lines.{Lines, cut_lines}
 use Rattle.session.specs.Script.{is_quit, joined_through_quit, through_quit}

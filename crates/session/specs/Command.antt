@@ -1,5 +1,5 @@
 -- What a command prints over the memory of an image.
-use Rattle.std.specs.Prelude.{ℕ, List, [], ◌++◌, codes, Option, None, Some, Result, Ok, Err}
+use Rattle.std.specs.Prelude.{ℕ, List, [], ◌++◌, codes, Option, None, Some}
 use Rattle.layer_base.specs.AddressSpace.{AddressSpace, bytes_from}
 use Rattle.layer_base.specs.Space.{page_address}
 use Rattle.layer_base.specs.declared.space.Space.{Space}

@@ -1,5 +1,4 @@
-use Rattle.std.proofs.Common.{◌≡◌, sym, ap}
-use Rattle.std.specs.Prelude.{IfSome, Some}
+use Rattle.std.proofs.Common.{sym}
 use Rattle.session.proofs.command.run_command.Goals as goal
 
 pub returns-in-Some-place_of-clause-text : goal.returns-in-Some-place_of-clause-text

@@ -4,7 +4,7 @@ use Rattle.std.proofs.lemmas.Option.{IfSome_then}
 use Rattle.layer_base.specs.Known.{AppendsPrefix, Writes}
 use Rattle.layer_base.specs.View.{physical}
 use Rattle.std.specs.Io.KnownBytes.{Appends, Consumes, IsAtEnd}
-use Rattle.session.specs.Turn.{turn_text, turn_line, rest_text}
+use Rattle.session.specs.Turn.{turn_text, rest_text}
 use Rattle.session.proofs.Ending.{script-failed, turn-failed, script-ended, script-quit, script-too_long}
 use Rattle.space_memory.proofs.Memories.{IsSameMemory-trans}
 use Rattle.session.proofs.Told.{IfSome-both}
