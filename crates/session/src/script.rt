@@ -104,10 +104,7 @@ pub(crate) fn run_script<Y: Layer, S: Source, O: Sink, L: Ledger>(
         match take_byte(script) {
             Err(Failed) => return Status::ScriptFault,
             Ok(None) => {
-                return status_after(
-                    Status::Ok,
-                    run_rest(alloc, memory, page, &line, out, steps),
-                );
+                return status_after(Status::Ok, run_rest(alloc, memory, page, &line, out, steps));
             }
             Ok(Some(byte)) => match take_in(alloc, memory, page, &mut line, byte, out, steps) {
                 Ok(Flow::NextLine) => {}
@@ -118,10 +115,7 @@ pub(crate) fn run_script<Y: Layer, S: Source, O: Sink, L: Ledger>(
     }
     match take_byte(script) {
         Err(Failed) => Status::ScriptFault,
-        Ok(None) => status_after(
-            Status::Ok,
-            run_rest(alloc, memory, page, &line, out, steps),
-        ),
+        Ok(None) => status_after(Status::Ok, run_rest(alloc, memory, page, &line, out, steps)),
         Ok(Some(_)) => status_after(Status::ScriptTooLong, write_text(out, b"script too long\n")),
     }
 }

@@ -244,13 +244,15 @@ fn failing_images(rt: HostRuntime) -> Result<(), Fail> {
 // A long read is written piece by piece: where its last piece fails, the rows of the first are there.
 #[test]
 fn read_in_pieces(rt: HostRuntime) -> Result<(), Fail> {
-    let image = filled(rt.alloc(), "", (b'0', 12_288), "")?;
+    // two pieces of 65,536 bytes, and a quarter of one
+    let image = filled(rt.alloc(), "", (b'0', 147_456), "")?;
     let given = Given {
         image: image.as_bytes(),
-        ..over_digits("read phys 0 12288\n")
+        cut: 5000,
+        ..over_digits("read phys 0 147456\n")
     };
     let mut whole = String::new(rt.alloc());
-    for row in 0..768u64 {
+    for row in 0..9216u64 {
         let at = 16 * row;
         whole.push_str(format!(in rt.alloc(); "0x{at:016x}")?.as_str())?;
         whole.push_str("  30 30 30 30 30 30 30 30 30 30 30 30 30 30 30 30  |0000000000000000|\n")?;
@@ -268,7 +270,8 @@ fn read_in_pieces(rt: HostRuntime) -> Result<(), Fail> {
     assert_eq!(rt; seen.status, 5);
     assert!(rt; text.starts_with(seen.text.as_str()));
     assert_eq!(rt; seen.text.len() % 88, 0, "whole rows");
-    assert!(rt; seen.text.len() >= 22_528, "the rows of the first piece");
+    // 4,096 rows of 88 bytes
+    assert!(rt; seen.text.len() >= 360_448, "the rows of the first piece");
     Ok(())
 }
 
