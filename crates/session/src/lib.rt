@@ -24,6 +24,8 @@ mod lime_tests;
 #[cfg(test)]
 mod line_tests;
 #[cfg(test)]
+mod long_tests;
+#[cfg(test)]
 mod paging_tests;
 #[cfg(test)]
 mod quit_tests;

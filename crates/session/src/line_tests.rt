@@ -2,8 +2,8 @@
 ghost use Rattle.std.specs.Prelude.{◌≡◌, ◌<◌};
 
 use crate::test_runs::{
-    BAD_NUMBER, BAD_SPACE, FIRST, Given, RANGE, ROW, TOO_LONG, UNKNOWN, USAGE, WANTED_3, commented,
-    expect, expect_texts, filled, over_digits, seen_of,
+    BAD_NUMBER, BAD_SPACE, FIRST, Given, RANGE, ROW, TOO_LONG, UNKNOWN, USAGE, WANTED_3, expect,
+    expect_texts, filled, over_digits, seen_of,
 };
 use std::test::Fail;
 
@@ -269,61 +269,6 @@ fn words(rt: HostRuntime) -> Result<(), Fail> {
             (2, USAGE, 14)
         };
         expect(&rt, rt.alloc(), &Given { words, ..given }, want, name)?;
-    }
-    Ok(())
-}
-
-// A script of 16 MiB and a few bytes more or less, in one line.
-#[test]
-fn long_scripts_of_a_line(rt: HostRuntime) -> Result<(), Fail> {
-    let alloc = rt.alloc();
-    for (name, end, status, want) in [
-        ("16 MiB in one line, no newline", "", 0, TOO_LONG),
-        ("a newline after 16 MiB", "\n", 10, "script too long\n"),
-    ] {
-        let script = filled(alloc, "", (b' ', 16_777_216), end)?;
-        let given = over_digits(script.as_str());
-        expect(&rt, alloc, &given, (status, want, 0), name)?;
-    }
-    Ok(())
-}
-
-// Comments of 4,096 bytes with their newlines, between a start and so many blanks before an end.
-#[test]
-fn long_scripts(rt: HostRuntime) -> Result<(), Fail> {
-    let alloc = rt.alloc();
-    let read = "read phys 0 1\n";
-    let both = "0x0000000000000000  30  |0|\nerror: unknown command\n";
-    let cut = "0x0000000000000000  30  |0|\nscript too long\n";
-    for (name, start, comments, blanks, end, want) in [
-        (
-            "four newlines more",
-            "",
-            4096,
-            0,
-            "\n\n\n\n",
-            (10, "script too long\n", 3),
-        ),
-        (
-            "two lines in 16 MiB",
-            read,
-            4095,
-            4076,
-            "\nfrob\n",
-            (0, both, 0),
-        ),
-        (
-            "a second line's newline after 16 MiB",
-            read,
-            4095,
-            4077,
-            "\nfrob\n",
-            (10, cut, 0),
-        ),
-    ] {
-        let end = filled(alloc, "", (b' ', blanks), end)?;
-        let script = commented(alloc, start, comments, end.as_str())?;
-        expect(&rt, alloc, &over_digits(script.as_str()), want, name)?;
     }
     Ok(())
 }

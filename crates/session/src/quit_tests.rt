@@ -1,7 +1,7 @@
 //! Where a script ends before its end, as tables of scripts over the sixteen digits: the text and how many bytes are
 //! left.
 use crate::test_images::expect_in_cuts;
-use crate::test_runs::{FIRST, Given, UNKNOWN, WANTED_0, commented, expect, filled, over_digits};
+use crate::test_runs::{FIRST, Given, UNKNOWN, WANTED_0, expect, filled, over_digits};
 use std::test::Fail;
 
 #[test]
@@ -125,27 +125,6 @@ fn other_faults(rt: HostRuntime) -> Result<(), Fail> {
         ),
     ] {
         expect(&rt, rt.alloc(), &given, want, name)?;
-    }
-    Ok(())
-}
-
-// At the end of the 16 MiB that are read.
-#[test]
-fn late_quits(rt: HostRuntime) -> Result<(), Fail> {
-    let alloc = rt.alloc();
-    for (name, blanks, end, want) in [
-        ("the last newline", 4091, "quit\nfrob\n", (0, "", 5)),
-        ("no newline", 4092, "quit", (0, "", 0)),
-        (
-            "a newline too late",
-            4092,
-            "quit\nfrob\n",
-            (10, "script too long\n", 5),
-        ),
-    ] {
-        let end = filled(alloc, "", (b' ', blanks), end)?;
-        let script = commented(alloc, "", 4095, end.as_str())?;
-        expect(&rt, alloc, &over_digits(script.as_str()), want, name)?;
     }
     Ok(())
 }

@@ -117,46 +117,43 @@ fn pages(alloc: Global) -> Result<Vec<u8>, AllocError> {
     image_with(alloc, 0x7006, &numbers, &texts)
 }
 
-// The rows of 4,112 addresses: the first, one for each sixteen bytes that are not there, and the last.
-fn add_rows(
+// A read of 4,112 addresses: its first row, one for each sixteen bytes that are not there, and its last row.
+fn expect_over_absent(
+    rt: &impl Abort,
     alloc: Global,
-    text: &mut String,
-    first: &str,
-    absent: u64,
-    last: &str,
+    script: &str,
+    (first, absent, last): (&str, u64, &str),
 ) -> Result<(), Fail> {
-    text.push_str(first)?;
+    let mut text = String::from_str(alloc, first)?;
     for row in 0..255u64 {
         let at = absent.saturating_add(16 * row);
         text.push_str(format!(in alloc; "0x{at:016x}")?.as_str())?;
         text.push_str("  -- -- -- -- -- -- -- -- -- -- -- -- -- -- -- --  |                |\n")?;
     }
     text.push_str(last)?;
-    Ok(())
+    let image = pages(alloc)?;
+    expect_or_faults(rt, alloc, &over(&image, script), text.as_str(), script)
 }
 
 #[test]
-fn reads_over_absent_pages(rt: HostRuntime) -> Result<(), Fail> {
-    let alloc = rt.alloc();
-    let mut text = String::new(alloc);
-    add_rows(
-        alloc,
-        &mut text,
+fn reads_over_no_page(rt: HostRuntime) -> Result<(), Fail> {
+    let rows = (
         "0x0000000000000ff8  61 62 63 64 65 66 67 68 -- -- -- -- -- -- -- --  |abcdefgh        |\n",
         0x1008,
         "0x0000000000001ff8  -- -- -- -- -- -- -- -- 69 6a 6b 6c 6d 6e 6f 70  |        ijklmnop|\n",
-    )?;
-    add_rows(
-        alloc,
-        &mut text,
+    );
+    expect_over_absent(&rt, rt.alloc(), "read root:0x1000:4 0xff8 4112\n", rows)
+}
+
+// The page is mapped, but the image lacks its frame, and the last two bytes of the next.
+#[test]
+fn reads_over_no_frame(rt: HostRuntime) -> Result<(), Fail> {
+    let rows = (
         "0x0000000000002ff8  71 72 73 74 75 76 77 78 -- -- -- -- -- -- -- --  |qrstuvwx        |\n",
         0x3008,
         "0x0000000000003ff8  -- -- -- -- -- -- -- -- 79 7a 30 31 32 33 -- --  |        yz0123  |\n",
-    )?;
-    let image = pages(alloc)?;
-    let script = "read root:0x1000:4 0xff8 4112\nread root:0x1000:4 0x2ff8 4112\n";
-    let given = over(&image, script);
-    expect_or_faults(&rt, alloc, &given, text.as_str(), "two reads")
+    );
+    expect_over_absent(&rt, rt.alloc(), "read root:0x1000:4 0x2ff8 4112\n", rows)
 }
 
 #[test]
