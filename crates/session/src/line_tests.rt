@@ -5,6 +5,8 @@ use crate::test_runs::{
     BAD_NUMBER, BAD_SPACE, FIRST, Given, RANGE, ROW, TOO_LONG, UNKNOWN, USAGE, WANTED_3, expect,
     expect_texts, filled, over_digits, seen_of,
 };
+use std::alloc::Global;
+use std::process::Abort;
 use std::test::Fail;
 
 #[test]
@@ -85,6 +87,16 @@ fn numbers(rt: HostRuntime) -> Result<(), Fail> {
             ("read phys 18446744073709551615 1", greatest),
             ("read phys 0018446744073709551615 1", greatest),
             ("read phys 0xFFFFffffFFFFffff 1", greatest),
+        ],
+    )
+}
+
+#[test]
+fn wrong_numbers(rt: HostRuntime) -> Result<(), Fail> {
+    expect_texts(
+        &rt,
+        rt.alloc(),
+        &[
             ("read phys 18446744073709551616 1", BAD_NUMBER),
             ("read phys 99999999999999999999 1", BAD_NUMBER),
             ("read phys 0x10000000000000000 1", BAD_NUMBER),
@@ -135,6 +147,20 @@ fn lines(rt: HostRuntime) -> Result<(), Fail> {
             ("#", ""),
             (" \t # read phys 0 1\r\n", ""),
             ("#read phys 0 1\nread phys 0 1 #", WANTED_3),
+            (
+                "read phys 15 1\n\nfrob\r\nread phys 0 1",
+                "0x000000000000000f  46  |F|\nerror: unknown command\n0x0000000000000000  30  |0|\n",
+            ),
+        ],
+    )
+}
+
+#[test]
+fn wrong_lines(rt: HostRuntime) -> Result<(), Fail> {
+    expect_texts(
+        &rt,
+        rt.alloc(),
+        &[
             ("read\n", WANTED_3),
             ("read phys\n", WANTED_3),
             ("read phys 0\n", WANTED_3),
@@ -149,94 +175,105 @@ fn lines(rt: HostRuntime) -> Result<(), Fail> {
             ("read phys @x 1\n", UNKNOWN),
             ("read phys 0 1\0\n", BAD_NUMBER),
             ("read\u{b}phys 0 1\n", UNKNOWN),
+        ],
+    )
+}
+
+// A byte so many times between two texts, and what that prints.
+type Filled<'a> = (&'a str, &'a str, (u8, usize), &'a str, &'a str);
+
+fn expect_filled(rt: &impl Abort, alloc: Global, rows: &[Filled<'_>]) -> Result<(), Fail> {
+    for (name, start, fill, end, want) in rows {
+        let script = filled(alloc, start, *fill, end)?;
+        let given = over_digits(script.as_str());
+        expect(rt, alloc, &given, (0, want, 0), name)?;
+    }
+    Ok(())
+}
+
+#[test]
+fn long_lines(rt: HostRuntime) -> Result<(), Fail> {
+    expect_filled(
+        &rt,
+        rt.alloc(),
+        &[
+            ("4,096 blanks", "", (b' ', 4096), "\n", ""),
+            ("4,096 blanks, no newline", "", (b' ', 4096), "", ""),
+            ("4,097 blanks", "", (b' ', 4097), "\n", TOO_LONG),
+            ("4,097 blanks, no newline", "", (b' ', 4097), "", TOO_LONG),
+            ("4,095 tabs and a return", "", (b'\t', 4095), "\r\n", ""),
             (
-                "read phys 15 1\n\nfrob\r\nread phys 0 1",
-                "0x000000000000000f  46  |F|\nerror: unknown command\n0x0000000000000000  30  |0|\n",
+                "4,096 tabs and a return",
+                "",
+                (b'\t', 4096),
+                "\r\n",
+                TOO_LONG,
             ),
+            ("4,096 letters", "", (b'x', 4096), "\n", UNKNOWN),
+            ("4,097 letters", "", (b'x', 4097), "\n", TOO_LONG),
+            ("a comment of 4,096", "#", (b' ', 4095), "\n", ""),
+            ("a comment of 4,097", "#", (b' ', 4096), "\n", TOO_LONG),
         ],
     )
 }
 
 #[test]
-fn long_lines(rt: HostRuntime) -> Result<(), Fail> {
-    let alloc = rt.alloc();
-    for (name, start, fill, end, want) in [
-        ("4,096 blanks", "", (b' ', 4096), "\n", ""),
-        ("4,096 blanks, no newline", "", (b' ', 4096), "", ""),
-        ("4,097 blanks", "", (b' ', 4097), "\n", TOO_LONG),
-        ("4,097 blanks, no newline", "", (b' ', 4097), "", TOO_LONG),
-        ("4,095 tabs and a return", "", (b'\t', 4095), "\r\n", ""),
-        (
-            "4,096 tabs and a return",
-            "",
-            (b'\t', 4096),
-            "\r\n",
-            TOO_LONG,
-        ),
-        ("4,096 letters", "", (b'x', 4096), "\n", UNKNOWN),
-        ("4,097 letters", "", (b'x', 4097), "\n", TOO_LONG),
-        ("a comment of 4,096", "#", (b' ', 4095), "\n", ""),
-        ("a comment of 4,097", "#", (b' ', 4096), "\n", TOO_LONG),
-        (
-            "a read of 4,096",
-            "read phys 0 1",
-            (b' ', 4083),
-            "\n",
-            FIRST,
-        ),
-        (
-            "a read of 4,097",
-            "read phys 0 1",
-            (b' ', 4084),
-            "\n",
-            TOO_LONG,
-        ),
-        (
-            "a read behind 4,083 blanks",
-            "",
-            (b' ', 4083),
-            "read phys 0 1",
-            FIRST,
-        ),
-        (
-            "a read behind 4,084 blanks",
-            "",
-            (b' ', 4084),
-            "read phys 0 1",
-            TOO_LONG,
-        ),
-        (
-            "a read behind 4,500 blanks",
-            "",
-            (b' ', 4500),
-            "read phys 0 1",
-            TOO_LONG,
-        ),
-        (
-            "a read of many digits",
-            "read phys ",
-            (b'0', 4084),
-            " 1\n",
-            FIRST,
-        ),
-        (
-            "a read after 10,000 letters",
-            "",
-            (b'x', 10_000),
-            "\nread phys 0 1",
-            "error: line too long\n0x0000000000000000  30  |0|\n",
-        ),
-    ] {
-        let script = filled(alloc, start, fill, end)?;
-        expect(
-            &rt,
-            alloc,
-            &over_digits(script.as_str()),
-            (0, want, 0),
-            name,
-        )?;
-    }
-    Ok(())
+fn long_reads(rt: HostRuntime) -> Result<(), Fail> {
+    expect_filled(
+        &rt,
+        rt.alloc(),
+        &[
+            (
+                "a read of 4,096",
+                "read phys 0 1",
+                (b' ', 4083),
+                "\n",
+                FIRST,
+            ),
+            (
+                "a read of 4,097",
+                "read phys 0 1",
+                (b' ', 4084),
+                "\n",
+                TOO_LONG,
+            ),
+            (
+                "a read behind 4,083 blanks",
+                "",
+                (b' ', 4083),
+                "read phys 0 1",
+                FIRST,
+            ),
+            (
+                "a read behind 4,084 blanks",
+                "",
+                (b' ', 4084),
+                "read phys 0 1",
+                TOO_LONG,
+            ),
+            (
+                "a read behind 4,500 blanks",
+                "",
+                (b' ', 4500),
+                "read phys 0 1",
+                TOO_LONG,
+            ),
+            (
+                "a read of many digits",
+                "read phys ",
+                (b'0', 4084),
+                " 1\n",
+                FIRST,
+            ),
+            (
+                "a read after 10,000 letters",
+                "",
+                (b'x', 10_000),
+                "\nread phys 0 1",
+                "error: line too long\n0x0000000000000000  30  |0|\n",
+            ),
+        ],
+    )
 }
 
 #[test]

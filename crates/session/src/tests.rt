@@ -5,10 +5,11 @@ use crate::test_runs::{
 };
 use std::test::Fail;
 
+const READ: &str = "read phys 0 16\n";
+
 #[test]
 fn ends(rt: HostRuntime) -> Result<(), Fail> {
-    let script = "read phys 0 16\n";
-    let given = over_digits(script);
+    let given = over_digits(READ);
     for (name, given, status, text, left) in [
         ("the row", given, 0, ROW, 0),
         ("no newline", over_digits("read phys 0 16"), 0, ROW, 0),
@@ -23,6 +24,18 @@ fn ends(rt: HostRuntime) -> Result<(), Fail> {
             0,
         ),
         ("no script", over_digits(""), 0, "", 0),
+        ("every object at 1", Given { cut: 1, ..given }, 0, ROW, 0),
+        ("every object at 3", Given { cut: 3, ..given }, 0, ROW, 0),
+    ] {
+        expect(&rt, rt.alloc(), &given, (status, text, left), name)?;
+    }
+    Ok(())
+}
+
+#[test]
+fn refused_words(rt: HostRuntime) -> Result<(), Fail> {
+    let given = over_digits(READ);
+    for (name, given, status, text, left) in [
         (
             "no words",
             Given {
@@ -44,8 +57,16 @@ fn ends(rt: HostRuntime) -> Result<(), Fail> {
             "usa",
             15,
         ),
-        ("every object at 1", Given { cut: 1, ..given }, 0, ROW, 0),
-        ("every object at 3", Given { cut: 3, ..given }, 0, ROW, 0),
+    ] {
+        expect(&rt, rt.alloc(), &given, (status, text, left), name)?;
+    }
+    Ok(())
+}
+
+#[test]
+fn rooms(rt: HostRuntime) -> Result<(), Fail> {
+    let given = over_digits(READ);
+    for (name, given, status, text, left) in [
         (
             "room for 7",
             Given {
@@ -97,6 +118,16 @@ fn ends(rt: HostRuntime) -> Result<(), Fail> {
             "",
             0,
         ),
+    ] {
+        expect(&rt, rt.alloc(), &given, (status, text, left), name)?;
+    }
+    Ok(())
+}
+
+#[test]
+fn failing_calls(rt: HostRuntime) -> Result<(), Fail> {
+    let given = over_digits(READ);
+    for (name, given, status, text, left) in [
         (
             "the script's call 0 fails",
             Given {
