@@ -139,7 +139,7 @@ fn other_ranges(rt: HostRuntime) -> Result<(), Fail> {
         (
             &[(TOP, u64::MAX, "WXYZ")],
             "read phys 0xfffffffffffffff0 17\nread phys 0 1\n",
-            "error: unknown command\n0x0000000000000000  --  | |\n",
+            "error: out of range\n0x0000000000000000  --  | |\n",
         ),
         (
             &[(TOP, u64::MAX, "0123456789ABCDEF")],

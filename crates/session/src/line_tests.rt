@@ -2,8 +2,11 @@
 ghost use Rattle.std.specs.Prelude.{◌≡◌, ◌<◌};
 
 use crate::test_runs::{
-    FIRST, Given, ROW, TOO_LONG, UNKNOWN, USAGE, expect, expect_texts, filled, over_digits, seen_of,
+    BAD_NUMBER, BAD_SPACE, FIRST, Given, RANGE, ROW, TOO_LONG, UNKNOWN, USAGE, WANTED_3, expect,
+    expect_texts, filled, over_digits, seen_of,
 };
+use std::alloc::Global;
+use std::process::Abort;
 use std::test::Fail;
 
 #[test]
@@ -25,16 +28,16 @@ fn reads(rt: HostRuntime) -> Result<(), Fail> {
             ("read phys 8 17", two),
             ("read phys 0xfffffffffffffff0 16", last),
             ("read phys 18446744073709551600 16", last),
-            ("read phys 0xfffffffffffffff0 17", UNKNOWN),
+            ("read phys 0xfffffffffffffff0 17", RANGE),
             (
                 "read phys 0xffffffffffffffff 1",
                 "0xffffffffffffffff  --  | |\n",
             ),
-            ("read phys 0xffffffffffffffff 2", UNKNOWN),
-            ("read phys 0xfffffffffff00001 1048576", UNKNOWN),
-            ("read phys 0 0", UNKNOWN),
-            ("read phys 0 1048577", UNKNOWN),
-            ("read phys 0 18446744073709551615", UNKNOWN),
+            ("read phys 0xffffffffffffffff 2", RANGE),
+            ("read phys 0xfffffffffff00001 1048576", RANGE),
+            ("read phys 0 0", RANGE),
+            ("read phys 0 1048577", RANGE),
+            ("read phys 0 18446744073709551615", RANGE),
         ],
     )
 }
@@ -84,27 +87,37 @@ fn numbers(rt: HostRuntime) -> Result<(), Fail> {
             ("read phys 18446744073709551615 1", greatest),
             ("read phys 0018446744073709551615 1", greatest),
             ("read phys 0xFFFFffffFFFFffff 1", greatest),
-            ("read phys 18446744073709551616 1", UNKNOWN),
-            ("read phys 99999999999999999999 1", UNKNOWN),
-            ("read phys 0x10000000000000000 1", UNKNOWN),
-            ("read phys 0 0x100001", UNKNOWN),
-            ("read phys 0x 1", UNKNOWN),
-            ("read phys 0 0x", UNKNOWN),
-            ("read phys 0X1 1", UNKNOWN),
-            ("read phys x1 1", UNKNOWN),
-            ("read phys 0xg 1", UNKNOWN),
-            ("read phys 0x0x1 1", UNKNOWN),
-            ("read phys a 1", UNKNOWN),
-            ("read phys 1a 1", UNKNOWN),
-            ("read phys +1 1", UNKNOWN),
-            ("read phys -1 1", UNKNOWN),
-            ("read phys 0 -1", UNKNOWN),
-            ("read phys 1_0 1", UNKNOWN),
-            ("read phys 1: 1", UNKNOWN),
-            ("read phys /1 1", UNKNOWN),
-            ("read phys 0x` 1", UNKNOWN),
-            ("read phys 0x@ 1", UNKNOWN),
-            ("read phys 0xG 1", UNKNOWN),
+        ],
+    )
+}
+
+#[test]
+fn wrong_numbers(rt: HostRuntime) -> Result<(), Fail> {
+    expect_texts(
+        &rt,
+        rt.alloc(),
+        &[
+            ("read phys 18446744073709551616 1", BAD_NUMBER),
+            ("read phys 99999999999999999999 1", BAD_NUMBER),
+            ("read phys 0x10000000000000000 1", BAD_NUMBER),
+            ("read phys 0 0x100001", RANGE),
+            ("read phys 0x 1", BAD_NUMBER),
+            ("read phys 0 0x", BAD_NUMBER),
+            ("read phys 0X1 1", BAD_NUMBER),
+            ("read phys x1 1", BAD_NUMBER),
+            ("read phys 0xg 1", BAD_NUMBER),
+            ("read phys 0x0x1 1", BAD_NUMBER),
+            ("read phys a 1", BAD_NUMBER),
+            ("read phys 1a 1", BAD_NUMBER),
+            ("read phys +1 1", BAD_NUMBER),
+            ("read phys -1 1", BAD_NUMBER),
+            ("read phys 0 -1", BAD_NUMBER),
+            ("read phys 1_0 1", BAD_NUMBER),
+            ("read phys 1: 1", BAD_NUMBER),
+            ("read phys /1 1", BAD_NUMBER),
+            ("read phys 0x` 1", BAD_NUMBER),
+            ("read phys 0x@ 1", BAD_NUMBER),
+            ("read phys 0xG 1", BAD_NUMBER),
         ],
     )
 }
@@ -124,32 +137,16 @@ fn lines(rt: HostRuntime) -> Result<(), Fail> {
             ("read phys 0 1\r\n", FIRST),
             ("read phys 0 1\r", FIRST),
             ("read phys 0 1 \r\n", FIRST),
-            ("read phys 0 1\r\r\n", UNKNOWN),
-            ("read phys 0 1\r \n", UNKNOWN),
+            ("read phys 0 1\r\r\n", BAD_NUMBER),
+            ("read phys 0 1\r \n", BAD_NUMBER),
             ("read\tphys\t0\t1\n", FIRST),
             (" \tread \t phys  0\t\t1\t \n", FIRST),
             ("\n\nread phys 0 1\n\n", FIRST),
-            ("# note\n", UNKNOWN),
-            ("#\n", UNKNOWN),
-            ("quit\n", UNKNOWN),
-            ("read\n", UNKNOWN),
-            ("read phys\n", UNKNOWN),
-            ("read phys 0\n", UNKNOWN),
-            ("read phys 0 1 2\n", UNKNOWN),
-            ("READ phys 0 1\n", UNKNOWN),
-            ("read Phys 0 1\n", UNKNOWN),
-            ("reads phys 0 1\n", UNKNOWN),
-            ("read phy 0 1\n", UNKNOWN),
-            ("readphys 0 1\n", UNKNOWN),
-            ("phys read 0 1\n", UNKNOWN),
-            ("read kernel 0 1\n", UNKNOWN),
-            ("read phys @x 1\n", UNKNOWN),
-            ("read phys 0 1\0\n", UNKNOWN),
-            ("read\u{b}phys 0 1\n", UNKNOWN),
-            (
-                "quit\nread phys 0 1",
-                "error: unknown command\n0x0000000000000000  30  |0|\n",
-            ),
+            ("# note\n", ""),
+            ("#\n", ""),
+            ("#", ""),
+            (" \t # read phys 0 1\r\n", ""),
+            ("#read phys 0 1\nread phys 0 1 #", WANTED_3),
             (
                 "read phys 15 1\n\nfrob\r\nread phys 0 1",
                 "0x000000000000000f  46  |F|\nerror: unknown command\n0x0000000000000000  30  |0|\n",
@@ -159,85 +156,124 @@ fn lines(rt: HostRuntime) -> Result<(), Fail> {
 }
 
 #[test]
-fn long_lines(rt: HostRuntime) -> Result<(), Fail> {
-    let alloc = rt.alloc();
-    for (name, start, fill, end, want) in [
-        ("4,096 blanks", "", (b' ', 4096), "\n", ""),
-        ("4,096 blanks, no newline", "", (b' ', 4096), "", ""),
-        ("4,097 blanks", "", (b' ', 4097), "\n", TOO_LONG),
-        ("4,097 blanks, no newline", "", (b' ', 4097), "", TOO_LONG),
-        ("4,095 tabs and a return", "", (b'\t', 4095), "\r\n", ""),
-        (
-            "4,096 tabs and a return",
-            "",
-            (b'\t', 4096),
-            "\r\n",
-            TOO_LONG,
-        ),
-        ("4,096 letters", "", (b'x', 4096), "\n", UNKNOWN),
-        ("4,097 letters", "", (b'x', 4097), "\n", TOO_LONG),
-        ("a comment of 4,096", "#", (b' ', 4095), "\n", UNKNOWN),
-        ("a comment of 4,097", "#", (b' ', 4096), "\n", TOO_LONG),
-        (
-            "a read of 4,096",
-            "read phys 0 1",
-            (b' ', 4083),
-            "\n",
-            FIRST,
-        ),
-        (
-            "a read of 4,097",
-            "read phys 0 1",
-            (b' ', 4084),
-            "\n",
-            TOO_LONG,
-        ),
-        (
-            "a read behind 4,083 blanks",
-            "",
-            (b' ', 4083),
-            "read phys 0 1",
-            FIRST,
-        ),
-        (
-            "a read behind 4,084 blanks",
-            "",
-            (b' ', 4084),
-            "read phys 0 1",
-            TOO_LONG,
-        ),
-        (
-            "a read behind 4,500 blanks",
-            "",
-            (b' ', 4500),
-            "read phys 0 1",
-            TOO_LONG,
-        ),
-        (
-            "a read of many digits",
-            "read phys ",
-            (b'0', 4084),
-            " 1\n",
-            FIRST,
-        ),
-        (
-            "a read after 10,000 letters",
-            "",
-            (b'x', 10_000),
-            "\nread phys 0 1",
-            "error: line too long\n0x0000000000000000  30  |0|\n",
-        ),
-    ] {
-        let script = filled(alloc, start, fill, end)?;
-        expect(
-            &rt,
-            alloc,
-            &over_digits(script.as_str()),
-            (0, want, 0),
-            name,
-        )?;
+fn wrong_lines(rt: HostRuntime) -> Result<(), Fail> {
+    expect_texts(
+        &rt,
+        rt.alloc(),
+        &[
+            ("read\n", WANTED_3),
+            ("read phys\n", WANTED_3),
+            ("read phys 0\n", WANTED_3),
+            ("read phys 0 1 2\n", WANTED_3),
+            ("READ phys 0 1\n", UNKNOWN),
+            ("read Phys 0 1\n", BAD_SPACE),
+            ("reads phys 0 1\n", UNKNOWN),
+            ("read phy 0 1\n", BAD_SPACE),
+            ("readphys 0 1\n", UNKNOWN),
+            ("phys read 0 1\n", UNKNOWN),
+            ("read kernel 0 1\n", UNKNOWN),
+            ("read phys @x 1\n", UNKNOWN),
+            ("read phys 0 1\0\n", BAD_NUMBER),
+            ("read\u{b}phys 0 1\n", UNKNOWN),
+        ],
+    )
+}
+
+// A byte so many times between two texts, and what that prints.
+type Filled<'a> = (&'a str, &'a str, (u8, usize), &'a str, &'a str);
+
+fn expect_filled(rt: &impl Abort, alloc: Global, rows: &[Filled<'_>]) -> Result<(), Fail> {
+    for (name, start, fill, end, want) in rows {
+        let script = filled(alloc, start, *fill, end)?;
+        let given = over_digits(script.as_str());
+        expect(rt, alloc, &given, (0, want, 0), name)?;
     }
     Ok(())
+}
+
+#[test]
+fn long_lines(rt: HostRuntime) -> Result<(), Fail> {
+    expect_filled(
+        &rt,
+        rt.alloc(),
+        &[
+            ("4,096 blanks", "", (b' ', 4096), "\n", ""),
+            ("4,096 blanks, no newline", "", (b' ', 4096), "", ""),
+            ("4,097 blanks", "", (b' ', 4097), "\n", TOO_LONG),
+            ("4,097 blanks, no newline", "", (b' ', 4097), "", TOO_LONG),
+            ("4,095 tabs and a return", "", (b'\t', 4095), "\r\n", ""),
+            (
+                "4,096 tabs and a return",
+                "",
+                (b'\t', 4096),
+                "\r\n",
+                TOO_LONG,
+            ),
+            ("4,096 letters", "", (b'x', 4096), "\n", UNKNOWN),
+            ("4,097 letters", "", (b'x', 4097), "\n", TOO_LONG),
+            ("a comment of 4,096", "#", (b' ', 4095), "\n", ""),
+            ("a comment of 4,097", "#", (b' ', 4096), "\n", TOO_LONG),
+        ],
+    )
+}
+
+#[test]
+fn long_reads(rt: HostRuntime) -> Result<(), Fail> {
+    expect_filled(
+        &rt,
+        rt.alloc(),
+        &[
+            (
+                "a read of 4,096",
+                "read phys 0 1",
+                (b' ', 4083),
+                "\n",
+                FIRST,
+            ),
+            (
+                "a read of 4,097",
+                "read phys 0 1",
+                (b' ', 4084),
+                "\n",
+                TOO_LONG,
+            ),
+            (
+                "a read behind 4,083 blanks",
+                "",
+                (b' ', 4083),
+                "read phys 0 1",
+                FIRST,
+            ),
+            (
+                "a read behind 4,084 blanks",
+                "",
+                (b' ', 4084),
+                "read phys 0 1",
+                TOO_LONG,
+            ),
+            (
+                "a read behind 4,500 blanks",
+                "",
+                (b' ', 4500),
+                "read phys 0 1",
+                TOO_LONG,
+            ),
+            (
+                "a read of many digits",
+                "read phys ",
+                (b'0', 4084),
+                " 1\n",
+                FIRST,
+            ),
+            (
+                "a read after 10,000 letters",
+                "",
+                (b'x', 10_000),
+                "\nread phys 0 1",
+                "error: line too long\n0x0000000000000000  30  |0|\n",
+            ),
+        ],
+    )
 }
 
 #[test]
@@ -270,72 +306,6 @@ fn words(rt: HostRuntime) -> Result<(), Fail> {
             (2, USAGE, 14)
         };
         expect(&rt, rt.alloc(), &Given { words, ..given }, want, name)?;
-    }
-    Ok(())
-}
-
-#[test]
-fn long_scripts(rt: HostRuntime) -> Result<(), Fail> {
-    let alloc = rt.alloc();
-    let read = "read phys 0 1\n";
-    let refused = "script too long\n";
-    let both = "0x0000000000000000  30  |0|\nerror: unknown command\n";
-    let cut = "0x0000000000000000  30  |0|\nscript too long\n";
-    for (name, start, fill, end, status, want, left) in [
-        (
-            "four newlines more",
-            "",
-            (b'\n', 16_777_220),
-            "",
-            10,
-            refused,
-            3,
-        ),
-        (
-            "16 MiB in one line, no newline",
-            "",
-            (b' ', 16_777_216),
-            "",
-            0,
-            TOO_LONG,
-            0,
-        ),
-        (
-            "a newline after 16 MiB",
-            "",
-            (b' ', 16_777_216),
-            "\n",
-            10,
-            refused,
-            0,
-        ),
-        (
-            "two lines in 16 MiB",
-            read,
-            (b'\n', 16_777_197),
-            "frob\n",
-            0,
-            both,
-            0,
-        ),
-        (
-            "a second line's newline after 16 MiB",
-            read,
-            (b'\n', 16_777_198),
-            "frob\n",
-            10,
-            cut,
-            0,
-        ),
-    ] {
-        let script = filled(alloc, start, fill, end)?;
-        expect(
-            &rt,
-            alloc,
-            &over_digits(script.as_str()),
-            (status, want, left),
-            name,
-        )?;
     }
     Ok(())
 }

@@ -20,11 +20,20 @@ pub(crate) fn add_range(
     image: &mut Vec<u8>,
     (first, last, text): Range<'_>,
 ) -> Result<(), AllocError> {
+    add_bytes(image, (first, last), text.as_bytes())
+}
+
+/// Adds the header of a range, and bytes behind it.
+pub(crate) fn add_bytes(
+    image: &mut Vec<u8>,
+    (first, last): (u64, u64),
+    bytes: &[u8],
+) -> Result<(), AllocError> {
     image.extend_from_slice(&[0x45, 0x4d, 0x69, 0x4c, 1, 0, 0, 0])?;
     image.extend_from_slice(&first.to_le_bytes())?;
     image.extend_from_slice(&last.to_le_bytes())?;
     image.extend_from_slice(&[0; 8])?;
-    image.extend_from_slice(text.as_bytes())
+    image.extend_from_slice(bytes)
 }
 
 // The first bytes of the image of these ranges, as many as are kept, with other bytes put at places.

@@ -23,6 +23,18 @@ pub(crate) const UNKNOWN: &str = "error: unknown command\n";
 
 pub(crate) const TOO_LONG: &str = "error: line too long\n";
 
+pub(crate) const WANTED_0: &str = "error: wanted 0 words\n";
+
+pub(crate) const WANTED_3: &str = "error: wanted 3 words\n";
+
+pub(crate) const BAD_SPACE: &str = "error: bad space\n";
+
+pub(crate) const BAD_NUMBER: &str = "error: bad number\n";
+
+pub(crate) const BAD_HEX: &str = "error: bad hex\n";
+
+pub(crate) const RANGE: &str = "error: out of range\n";
+
 /// What a run is given. Every object gives or takes at most `cut` bytes a call.
 #[derive(Clone, Copy)]
 pub(crate) struct Given<'a> {
@@ -204,6 +216,22 @@ pub(crate) fn filled(
 ) -> Result<String, Fail> {
     let mut text = String::from_str(alloc, start)?;
     text.push_str(String::from_utf8(vec![in alloc; byte; count]?)?.as_str())?;
+    text.push_str(end)?;
+    Ok(text)
+}
+
+// So many comments of 4,096 bytes, each with its newline, between two texts.
+pub(crate) fn commented(
+    alloc: Global,
+    start: &str,
+    comments: usize,
+    end: &str,
+) -> Result<String, Fail> {
+    let comment = filled(alloc, "#", (b'x', 4094), "\n")?;
+    let mut text = String::from_str(alloc, start)?;
+    for _ in 0..comments {
+        text.push_str(comment.as_str())?;
+    }
     text.push_str(end)?;
     Ok(text)
 }

@@ -5,10 +5,11 @@ use crate::test_runs::{
 };
 use std::test::Fail;
 
+const READ: &str = "read phys 0 16\n";
+
 #[test]
 fn ends(rt: HostRuntime) -> Result<(), Fail> {
-    let script = "read phys 0 16\n";
-    let given = over_digits(script);
+    let given = over_digits(READ);
     for (name, given, status, text, left) in [
         ("the row", given, 0, ROW, 0),
         ("no newline", over_digits("read phys 0 16"), 0, ROW, 0),
@@ -23,6 +24,18 @@ fn ends(rt: HostRuntime) -> Result<(), Fail> {
             0,
         ),
         ("no script", over_digits(""), 0, "", 0),
+        ("every object at 1", Given { cut: 1, ..given }, 0, ROW, 0),
+        ("every object at 3", Given { cut: 3, ..given }, 0, ROW, 0),
+    ] {
+        expect(&rt, rt.alloc(), &given, (status, text, left), name)?;
+    }
+    Ok(())
+}
+
+#[test]
+fn refused_words(rt: HostRuntime) -> Result<(), Fail> {
+    let given = over_digits(READ);
+    for (name, given, status, text, left) in [
         (
             "no words",
             Given {
@@ -44,8 +57,16 @@ fn ends(rt: HostRuntime) -> Result<(), Fail> {
             "usa",
             15,
         ),
-        ("every object at 1", Given { cut: 1, ..given }, 0, ROW, 0),
-        ("every object at 3", Given { cut: 3, ..given }, 0, ROW, 0),
+    ] {
+        expect(&rt, rt.alloc(), &given, (status, text, left), name)?;
+    }
+    Ok(())
+}
+
+#[test]
+fn rooms(rt: HostRuntime) -> Result<(), Fail> {
+    let given = over_digits(READ);
+    for (name, given, status, text, left) in [
         (
             "room for 7",
             Given {
@@ -97,6 +118,16 @@ fn ends(rt: HostRuntime) -> Result<(), Fail> {
             "",
             0,
         ),
+    ] {
+        expect(&rt, rt.alloc(), &given, (status, text, left), name)?;
+    }
+    Ok(())
+}
+
+#[test]
+fn failing_calls(rt: HostRuntime) -> Result<(), Fail> {
+    let given = over_digits(READ);
+    for (name, given, status, text, left) in [
         (
             "the script's call 0 fails",
             Given {
@@ -244,13 +275,15 @@ fn failing_images(rt: HostRuntime) -> Result<(), Fail> {
 // A long read is written piece by piece: where its last piece fails, the rows of the first are there.
 #[test]
 fn read_in_pieces(rt: HostRuntime) -> Result<(), Fail> {
-    let image = filled(rt.alloc(), "", (b'0', 12_288), "")?;
+    // two pieces of 65,536 bytes, and a quarter of one
+    let image = filled(rt.alloc(), "", (b'0', 147_456), "")?;
     let given = Given {
         image: image.as_bytes(),
-        ..over_digits("read phys 0 12288\n")
+        cut: 5000,
+        ..over_digits("read phys 0 147456\n")
     };
     let mut whole = String::new(rt.alloc());
-    for row in 0..768u64 {
+    for row in 0..9216u64 {
         let at = 16 * row;
         whole.push_str(format!(in rt.alloc(); "0x{at:016x}")?.as_str())?;
         whole.push_str("  30 30 30 30 30 30 30 30 30 30 30 30 30 30 30 30  |0000000000000000|\n")?;
@@ -268,7 +301,8 @@ fn read_in_pieces(rt: HostRuntime) -> Result<(), Fail> {
     assert_eq!(rt; seen.status, 5);
     assert!(rt; text.starts_with(seen.text.as_str()));
     assert_eq!(rt; seen.text.len() % 88, 0, "whole rows");
-    assert!(rt; seen.text.len() >= 22_528, "the rows of the first piece");
+    // 4,096 rows of 88 bytes
+    assert!(rt; seen.text.len() >= 360_448, "the rows of the first piece");
     Ok(())
 }
 
