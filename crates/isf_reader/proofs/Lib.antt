@@ -1,0 +1,6 @@
+pub mod Descriptors
+pub mod Kept
+pub mod Named
+pub mod Nesting
+pub mod Order
+pub mod Taking

@@ -1,0 +1,11 @@
+pub mod BaseTypes
+pub mod Depth
+pub mod Entry
+pub mod Enums
+pub mod Json
+pub mod Maps
+pub mod Sections
+pub mod Symbols
+pub mod Table
+pub mod TypeOf
+pub mod UserTypes

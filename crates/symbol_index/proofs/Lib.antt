@@ -1,0 +1,4 @@
+pub mod Addresses
+pub mod Extremes
+pub mod Names
+pub mod Telling

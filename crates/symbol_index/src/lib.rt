@@ -1,0 +1,13 @@
+//! The symbols of a kernel, by name and by address.
+#![tactic(auto)]
+
+mod line;
+mod order;
+mod search;
+mod symbols;
+
+pub use line::Entry;
+pub use symbols::Symbols;
+
+#[cfg(test)]
+mod tests;

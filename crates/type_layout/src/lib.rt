@@ -1,0 +1,18 @@
+//! Sizes of types and places of their members, as the table of a symbol file gives them. The calls take no memory.
+#![tactic(auto)]
+
+mod fault;
+mod found;
+mod members;
+mod path;
+mod place;
+mod size;
+
+pub use fault::TypeFault;
+pub use members::member;
+pub use path::{PathRefusal, resolve};
+pub use place::Place;
+pub use size::size_of;
+
+#[cfg(test)]
+mod tests;
