@@ -3,7 +3,7 @@
 
 mod rows;
 
-pub use rows::{append_address, append_rows, dump_row};
+pub use rows::{append_address, append_hex, append_rows, dump_row};
 
 #[cfg(test)]
 mod tests;

@@ -17,8 +17,8 @@ fn hex_digit(value: u8) -> u8
     }
 }
 
-// Appends so many hexadecimal digits, the most significant first.
-fn append_hex(text: &mut Vec<u8>, digits: u32, value: u64) -> Result<(), AllocError>
+/// Appends so many hexadecimal digits in lower case, the most significant first.
+pub fn append_hex(text: &mut Vec<u8>, digits: u32, value: u64) -> Result<(), AllocError>
     requires { digits ≤ 16 }
     ensures { OnOk result (text.new.items ≡ text.old.items ++ hex_digits digits value) }
 {

@@ -4,7 +4,7 @@ use Rattle.std.proofs.lemmas.Bool.{cases_lt}
 use Rattle.std.proofs.lemmas.Bool.Decides.{nat_tests}
 use Rattle.std.proofs.lemmas.List.{take_all, take_at, take-append-le}
 use Rattle.std.specs.Prelude.{Err}
-use Rattle.layer_base.specs.AddressSpace.{AddressSpace}
+use Rattle.session.specs.Evidence.{Evidence}
 use Rattle.command_words.specs.Line.{command_of}
 use Rattle.command_words.specs.declared.fault.LineFault.TheVariants.{TooLong}
 use Rattle.session.specs.Script.{line_text, text_of, ends_script, is_quit}
@@ -19,15 +19,15 @@ command_of-clipped line = ⊎_elim
     (λ long. too_long (take LINE_ROOM line) (omega (arith, length-take LINE_ROOM line)) ∙ sym (too_long line (omega (arith, long))))
     (λ short. ap command_of (take_all LINE_ROOM line short)) (cases_lt LINE_ROOM (length line))
 
-pub line_text-clipped : (memory : AddressSpace) (line : List ℕ) → line_text memory (take LINE_ROOM line) ≡ line_text memory line
-line_text-clipped memory line = ap (text_of memory) (command_of-clipped line)
+pub line_text-clipped : (evidence : Evidence) (line : List ℕ) → line_text evidence (take LINE_ROOM line) ≡ line_text evidence line
+line_text-clipped evidence line = ap (text_of evidence) (command_of-clipped line)
 
 pub is_quit-clipped : (line : List ℕ) → is_quit (take LINE_ROOM line) ≡ is_quit line
 is_quit-clipped line = ap ends_script (command_of-clipped line)
 
-pub rest_text-clipped : (memory : AddressSpace) (line : List ℕ) → rest_text memory (take LINE_ROOM line) ≡ rest_text memory line
-rest_text-clipped memory [] = refl
-rest_text-clipped memory (byte ∷ bytes) = ap (λ (text : List ℕ). text ++ []) (line_text-clipped memory (byte ∷ bytes))
+pub rest_text-clipped : (evidence : Evidence) (line : List ℕ) → rest_text evidence (take LINE_ROOM line) ≡ rest_text evidence line
+rest_text-clipped evidence [] = refl
+rest_text-clipped evidence (byte ∷ bytes) = ap (λ (text : List ℕ). text ++ []) (line_text-clipped evidence (byte ∷ bytes))
 
 pub clipped-push : (line : List ℕ) (byte : ℕ) → take LINE_ROOM (line ++ byte ∷ []) ≡ take LINE_ROOM (take LINE_ROOM line ++ byte ∷ [])
 clipped-push line byte = ⊎_elim

@@ -4,7 +4,7 @@ use Rattle.std.specs.Prelude.{codes}
 use Rattle.std.proofs.lemmas.List.{append-nil, take_at, length_push}
 use Rattle.std.specs.Io.{StartsWith}
 use Rattle.std.specs.Io.KnownBytes.{Appends, Consumes, IsAtEnd, Keeps}
-use Rattle.layer_base.specs.AddressSpace.{AddressSpace}
+use Rattle.session.specs.Evidence.{Evidence}
 use Rattle.layer_base.specs.Known.{AppendsPrefix, Writes}
 use Rattle.layer_base.proofs.Appending.{Appends-append, StartsWith-front, StartsWith-same, StartsWith-trans, StartsWith-behind}
 use Rattle.session.specs.Lines.{cut_lines}
@@ -60,12 +60,12 @@ module _ (old new : Option (List ℕ)) (text : List ℕ) where
   piece_of (Ok done) writes = record { piece = text; written = writes; front = StartsWith-same text; whole = λ answer. refl }
   piece_of (Err fault) writes = record { piece = writes.0; written = writes.1; front = writes.2; whole = λ answer. absurd (fault_is_no_answer fault answer) }
 
-module _ (memory : AddressSpace) (script : List ℕ) (left left' out out' : Option (List ℕ)) (line : List ℕ) (count : ℕ) (underway : Underway memory script left out out' line count) where
+module _ (evidence : Evidence) (script : List ℕ) (left left' out out' : Option (List ℕ)) (line : List ℕ) (count : ℕ) (underway : Underway evidence script left out out' line count) where
   abbrev given : List ℕ
   given = underway.given
 
   abbrev so_far : List ℕ
-  so_far = texts_of memory (cut_lines given).whole
+  so_far = texts_of evidence (cut_lines given).whole
 
   -- the part of the script that is run
   abbrev part : List ℕ
@@ -89,7 +89,7 @@ module _ (memory : AddressSpace) (script : List ℕ) (left left' out out' : Opti
       (found.0, ap through_quit (front.1 ∙ append_assoc given (byte ∷ []) front.0) ∙ found.1 ∙ sym (append_assoc given (byte ∷ []) found.0))
 
   -- a call on the script failed
-  pub script-failed : count ≤ 16777216 → Keeps left left' → RanOver memory (script_run memory script) script left' out out' status.ScriptFault
+  pub script-failed : count ≤ 16777216 → Keeps left left' → RanOver evidence (script_run evidence script) script left' out out' status.ScriptFault
   script-failed few kept =
       let front = front_of in (
         given,
@@ -97,9 +97,9 @@ module _ (memory : AddressSpace) (script : List ℕ) (left left' out out' : Opti
         Consumes-keep script left left' given underway.taken kept,
         underway.written,
         record {
-          given_prefix = taken-front memory part given front.0 front.1 (within 16777217 (omega arith));
-          text_prefix = text-front memory part given front.0 front.1 (within 16777216 few);
-          lines = texts-before_last memory given;
+          given_prefix = taken-front evidence part given front.0 front.1 (within 16777217 (omega arith));
+          text_prefix = text-front evidence part given front.0 front.1 (within 16777216 few);
+          lines = texts-before_last evidence given;
           lines_at_fault = λ is. StartsWith-same so_far;
           status_is = λ answer. absurd answer;
           text_is = λ answer. absurd answer;
@@ -108,22 +108,22 @@ module _ (memory : AddressSpace) (script : List ℕ) (left left' out out' : Opti
       )
 
   -- a line was cut short, or the byte that it ends with
-  pub turn-failed : (byte : ℕ) (fault : CommandFault) (out'' : Option (List ℕ)) → count < 16777216 → Consumes left left' (byte ∷ []) → AppendsPrefix out' out'' (turn_text memory line byte) → RanOver memory (script_run memory script) script left' out out'' (status_of_fault fault)
+  pub turn-failed : (byte : ℕ) (fault : CommandFault) (out'' : Option (List ℕ)) → count < 16777216 → Consumes left left' (byte ∷ []) → AppendsPrefix out' out'' (turn_text evidence line byte) → RanOver evidence (script_run evidence script) script left' out out'' (status_of_fault fault)
   turn-failed byte fault out'' few taken prefix =
       let given' = given ++ byte ∷ [] in
       let taken' = Consumes-append script left left' given (byte ∷ []) underway.taken taken in
       let front = front_with byte taken' in
-      let turn : turn_text memory line byte ≡ turn_text memory (take LINE_ROOM (cut_lines given).rest) byte = ap (λ l. turn_text memory l byte) underway.line_is in
-      let piece : StartsWith (turn_text memory (take LINE_ROOM (cut_lines given).rest) byte) prefix.0 = subst (λ text. StartsWith text prefix.0) turn prefix.2 in
-      let before : StartsWith (texts_of memory (cut_lines given').whole) (so_far ++ prefix.0) = subst (λ text. StartsWith text (so_far ++ prefix.0)) (sym (texts-push memory given byte)) (StartsWith-behind so_far _ prefix.0 piece) in (
+      let turn : turn_text evidence line byte ≡ turn_text evidence (take LINE_ROOM (cut_lines given).rest) byte = ap (λ l. turn_text evidence l byte) underway.line_is in
+      let piece : StartsWith (turn_text evidence (take LINE_ROOM (cut_lines given).rest) byte) prefix.0 = subst (λ text. StartsWith text prefix.0) turn prefix.2 in
+      let before : StartsWith (texts_of evidence (cut_lines given').whole) (so_far ++ prefix.0) = subst (λ text. StartsWith text (so_far ++ prefix.0)) (sym (texts-push evidence given byte)) (StartsWith-behind so_far _ prefix.0 piece) in (
         given',
         so_far ++ prefix.0,
         taken',
         Appends-append out out' out'' so_far prefix.0 underway.written prefix.1,
         record {
-          given_prefix = taken-front memory part given' front.0 front.1 (omega (arith, length_push given byte, within 16777216 (omega arith)));
-          text_prefix = StartsWith-trans _ _ _ (text-front memory part given' front.0 front.1 (omega (arith, length_push given byte, underway.count_is))) before;
-          lines = subst (λ lines. StartsWith (so_far ++ prefix.0) (texts_of memory lines)) (sym (lines_before_last-push given byte)) (StartsWith-front so_far prefix.0);
+          given_prefix = taken-front evidence part given' front.0 front.1 (omega (arith, length_push given byte, within 16777216 (omega arith)));
+          text_prefix = StartsWith-trans _ _ _ (text-front evidence part given' front.0 front.1 (omega (arith, length_push given byte, underway.count_is))) before;
+          lines = subst (λ lines. StartsWith (so_far ++ prefix.0) (texts_of evidence lines)) (sym (lines_before_last-push given byte)) (StartsWith-front so_far prefix.0);
           lines_at_fault = λ is. absurd (fault_is_of_no_script fault is);
           status_is = λ answer. absurd (fault_is_no_answer fault answer);
           text_is = λ answer. absurd (fault_is_no_answer fault answer);
@@ -132,35 +132,35 @@ module _ (memory : AddressSpace) (script : List ℕ) (left left' out out' : Opti
       )
 
   -- the script is at its end
-  pub script-ended : (out'' : Option (List ℕ)) (result : Result (Unit {0}) CommandFault) → count ≤ 16777216 → Consumes left left' [] → IsAtEnd left' → Writes out' out'' result (rest_text memory line) → RanOver memory (script_run memory script) script left' out out'' (status_after status.Ok result)
+  pub script-ended : (out'' : Option (List ℕ)) (result : Result (Unit {0}) CommandFault) → count ≤ 16777216 → Consumes left left' [] → IsAtEnd left' → Writes out' out'' result (rest_text evidence line) → RanOver evidence (script_run evidence script) script left' out out'' (status_after status.Ok result)
   script-ended out'' result few taken end writes =
       let taken' : Consumes (Some script) left' given = subst (Consumes (Some script) left') (append-nil given) (Consumes-append script left left' given [] underway.taken taken) in
       let all : given ≡ part = sym (through-all given underway.no_quit) ∙ ap through_quit (Consumes-all script left' given taken' end) in
       let short : is_short part ≡ true = is_short-within part (omega (arith, ap length all, underway.count_is)) in
-      let rest : rest_text memory line ≡ rest_text memory (cut_lines given).rest = ap (rest_text memory) underway.line_is ∙ rest_text-clipped memory (cut_lines given).rest in
-      let text : script_text memory part ≡ so_far ++ rest_text memory line = text-short memory part short ∙ ap (λ l. texts_of memory (cut_lines l).whole ++ rest_text memory (cut_lines l).rest) (sym all) ∙ ap (λ l. so_far ++ l) (sym rest) in
-      let piece = piece_of out' out'' (rest_text memory line) result writes in (
+      let rest : rest_text evidence line ≡ rest_text evidence (cut_lines given).rest = ap (rest_text evidence) underway.line_is ∙ rest_text-clipped evidence (cut_lines given).rest in
+      let text : script_text evidence part ≡ so_far ++ rest_text evidence line = text-short evidence part short ∙ ap (λ l. texts_of evidence (cut_lines l).whole ++ rest_text evidence (cut_lines l).rest) (sym all) ∙ ap (λ l. so_far ++ l) (sym rest) in
+      let piece = piece_of out' out'' (rest_text evidence line) result writes in (
         given,
         so_far ++ piece.piece,
         taken',
         Appends-append out out' out'' so_far piece.piece underway.written piece.written,
         record {
-          given_prefix = subst (λ l. StartsWith l given) (all ∙ sym (taken-short memory part short)) (StartsWith-same given);
+          given_prefix = subst (λ l. StartsWith l given) (all ∙ sym (taken-short evidence part short)) (StartsWith-same given);
           text_prefix = subst (λ l. StartsWith l (so_far ++ piece.piece)) (sym text) (StartsWith-behind so_far _ piece.piece piece.front);
-          lines = StartsWith-trans _ _ _ (StartsWith-front so_far piece.piece) (texts-before_last memory given);
+          lines = StartsWith-trans _ _ _ (StartsWith-front so_far piece.piece) (texts-before_last evidence given);
           lines_at_fault = λ is. StartsWith-front so_far piece.piece;
           status_is = ended result short;
           text_is = λ answer. ap (λ l. so_far ++ l) (piece.whole answer) ∙ sym text;
-          given_is = λ answer. all ∙ sym (taken-short memory part short);
+          given_is = λ answer. all ∙ sym (taken-short evidence part short);
         },
       )
     where
-      ended : (result : Result (Unit {0}) CommandFault) → is_short part ≡ true → IsAnswer (status_after status.Ok result) → status_after status.Ok result ≡ (script_run memory script).status
-      ended (Ok done) short answer = sym (status-short memory part short)
+      ended : (result : Result (Unit {0}) CommandFault) → is_short part ≡ true → IsAnswer (status_after status.Ok result) → status_after status.Ok result ≡ (script_run evidence script).status
+      ended (Ok done) short answer = sym (status-short evidence part short)
       ended (Err fault) short answer = absurd (fault_is_no_answer fault answer)
 
   -- the line that the byte ends is a `quit`
-  pub script-quit : (byte : ℕ) (out'' : Option (List ℕ)) → count < 16777216 → Consumes left left' (byte ∷ []) → Appends out' out'' (turn_text memory line byte) → Quit ≡ turn_flow line byte → RanOver memory (script_run memory script) script left' out out'' status.Ok
+  pub script-quit : (byte : ℕ) (out'' : Option (List ℕ)) → count < 16777216 → Consumes left left' (byte ∷ []) → Appends out' out'' (turn_text evidence line byte) → Quit ≡ turn_flow line byte → RanOver evidence (script_run evidence script) script left' out out'' status.Ok
   script-quit byte out'' few taken written flow =
       let given' = given ++ byte ∷ [] in
       let taken' = Consumes-append script left left' given (byte ∷ []) underway.taken taken in
@@ -171,29 +171,29 @@ module _ (memory : AddressSpace) (script : List ℕ) (left left' out out' : Opti
       ap (λ b. given ++ b ∷ []) quits.0
       ∙ sym (ap through_quit (front.1 ∙ append_assoc given (byte ∷ []) front.0 ∙ ap (λ b. given ++ b ∷ front.0) quits.0) ∙ through-quit given front.0 underway.no_quit last) in
       let short : is_short part ≡ true = is_short-within part (omega (arith, ap length all, length_push given byte, underway.count_is)) in
-      let turn : so_far ++ turn_text memory line byte ≡ texts_of memory (cut_lines given').whole = ap (λ l. so_far ++ turn_text memory l byte) underway.line_is ∙ sym (texts-push memory given byte) in
+      let turn : so_far ++ turn_text evidence line byte ≡ texts_of evidence (cut_lines given').whole = ap (λ l. so_far ++ turn_text evidence l byte) underway.line_is ∙ sym (texts-push evidence given byte) in
       let rest : (cut_lines given').rest ≡ [] = ap (λ lines. lines.rest) (cut-push given byte) ∙ ap (λ b. (pushed (eqb b 10) b (cut_lines given)).rest) quits.0 in
-      let text : so_far ++ turn_text memory line byte ≡ script_text memory part =
-      turn ∙ sym (append-nil _) ∙ ap (λ l. texts_of memory (cut_lines given').whole ++ rest_text memory l) (sym rest)
-      ∙ ap (λ l. texts_of memory (cut_lines l).whole ++ rest_text memory (cut_lines l).rest) all ∙ sym (text-short memory part short) in
-      let taken_all : given' ≡ script_taken part = all ∙ sym (taken-short memory part short) in (
+      let text : so_far ++ turn_text evidence line byte ≡ script_text evidence part =
+      turn ∙ sym (append-nil _) ∙ ap (λ l. texts_of evidence (cut_lines given').whole ++ rest_text evidence l) (sym rest)
+      ∙ ap (λ l. texts_of evidence (cut_lines l).whole ++ rest_text evidence (cut_lines l).rest) all ∙ sym (text-short evidence part short) in
+      let taken_all : given' ≡ script_taken part = all ∙ sym (taken-short evidence part short) in (
         given',
-        so_far ++ turn_text memory line byte,
+        so_far ++ turn_text evidence line byte,
         taken',
-        Appends-append out out' out'' so_far (turn_text memory line byte) underway.written written,
+        Appends-append out out' out'' so_far (turn_text evidence line byte) underway.written written,
         record {
           given_prefix = subst (λ l. StartsWith l given') taken_all (StartsWith-same given');
-          text_prefix = subst (λ l. StartsWith l (so_far ++ turn_text memory line byte)) text (StartsWith-same _);
-          lines = subst (λ lines. StartsWith (so_far ++ turn_text memory line byte) (texts_of memory lines)) (sym (lines_before_last-push given byte)) (StartsWith-front so_far (turn_text memory line byte));
+          text_prefix = subst (λ l. StartsWith l (so_far ++ turn_text evidence line byte)) text (StartsWith-same _);
+          lines = subst (λ lines. StartsWith (so_far ++ turn_text evidence line byte) (texts_of evidence lines)) (sym (lines_before_last-push given byte)) (StartsWith-front so_far (turn_text evidence line byte));
           lines_at_fault = λ is. absurd (cc is);
-          status_is = λ answer. sym (status-short memory part short);
+          status_is = λ answer. sym (status-short evidence part short);
           text_is = λ answer. text;
           given_is = λ answer. taken_all;
         },
       )
 
   -- the script goes on behind the last byte that is read
-  pub script-too_long : (byte : ℕ) (out'' : Option (List ℕ)) (result : Result (Unit {0}) CommandFault) → count ≡ 16777216 → Consumes left left' (byte ∷ []) → Writes out' out'' result (codes "script too long\n") → RanOver memory (script_run memory script) script left' out out'' (status_after status.ScriptTooLong result)
+  pub script-too_long : (byte : ℕ) (out'' : Option (List ℕ)) (result : Result (Unit {0}) CommandFault) → count ≡ 16777216 → Consumes left left' (byte ∷ []) → Writes out' out'' result (codes "script too long\n") → RanOver evidence (script_run evidence script) script left' out out'' (status_after status.ScriptTooLong result)
   script-too_long byte out'' result most taken writes =
       let given' = given ++ byte ∷ [] in
       let taken' = Consumes-append script left left' given (byte ∷ []) underway.taken taken in
@@ -202,8 +202,8 @@ module _ (memory : AddressSpace) (script : List ℕ) (left left' out out' : Opti
       let size' : length given' ≡ 16777217 = omega (arith, length_push given byte) in
       let long : is_short part ≡ false = is_short-past part (omega (arith, ap length front.1, length-append given' front.0)) in
       let read : take 16777216 part ≡ given = ap (take 16777216) (front.1 ∙ append_assoc given (byte ∷ []) front.0) ∙ take_at given (byte ∷ [] ++ front.0) 16777216 size in
-      let all : given' ≡ script_taken part = sym (taken-long memory part long ∙ ap (take 16777217) front.1 ∙ take_at given' front.0 16777217 size') in
-      let text : script_text memory part ≡ so_far ++ codes "script too long\n" = text-long memory part long ∙ ap (λ l. texts_of memory (cut_lines l).whole ++ codes "script too long\n") read in
+      let all : given' ≡ script_taken part = sym (taken-long evidence part long ∙ ap (take 16777217) front.1 ∙ take_at given' front.0 16777217 size') in
+      let text : script_text evidence part ≡ so_far ++ codes "script too long\n" = text-long evidence part long ∙ ap (λ l. texts_of evidence (cut_lines l).whole ++ codes "script too long\n") read in
       let piece = piece_of out' out'' (codes "script too long\n") result writes in (
         given',
         so_far ++ piece.piece,
@@ -212,7 +212,7 @@ module _ (memory : AddressSpace) (script : List ℕ) (left left' out out' : Opti
         record {
           given_prefix = subst (λ l. StartsWith l given') all (StartsWith-same given');
           text_prefix = subst (λ l. StartsWith l (so_far ++ piece.piece)) (sym text) (StartsWith-behind so_far _ piece.piece piece.front);
-          lines = subst (λ lines. StartsWith (so_far ++ piece.piece) (texts_of memory lines)) (sym (lines_before_last-push given byte)) (StartsWith-front so_far piece.piece);
+          lines = subst (λ lines. StartsWith (so_far ++ piece.piece) (texts_of evidence lines)) (sym (lines_before_last-push given byte)) (StartsWith-front so_far piece.piece);
           lines_at_fault = λ is. absurd (of_no_script result is);
           status_is = ended result long;
           text_is = λ answer. ap (λ l. so_far ++ l) (piece.whole (same_answer result answer)) ∙ sym text;
@@ -228,6 +228,6 @@ module _ (memory : AddressSpace) (script : List ℕ) (left left' out out' : Opti
       same_answer (Ok done) answer = tt
       same_answer (Err fault) answer = answer
 
-      ended : (result : Result (Unit {0}) CommandFault) → is_short part ≡ false → IsAnswer (status_after status.ScriptTooLong result) → status_after status.ScriptTooLong result ≡ (script_run memory script).status
-      ended (Ok done) long answer = sym (status-long memory part long)
+      ended : (result : Result (Unit {0}) CommandFault) → is_short part ≡ false → IsAnswer (status_after status.ScriptTooLong result) → status_after status.ScriptTooLong result ≡ (script_run evidence script).status
+      ended (Ok done) long answer = sym (status-long evidence part long)
       ended (Err fault) long answer = absurd (fault_is_no_answer fault answer)

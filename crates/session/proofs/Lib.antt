@@ -9,3 +9,5 @@ pub mod Texts
 pub mod Cutting
 pub mod Cells
 pub mod Told
+pub mod Taking
+pub mod SymbolRuns

@@ -3,7 +3,7 @@ use Rattle.std.proofs.Common.{◌≡◌, ℕ, ◌-◌, Bool, true, false, cond, 
 use Rattle.std.proofs.lemmas.Grind.{flat_map-append}
 use Rattle.std.proofs.lemmas.List.{append-nil, take_at, length_push}
 use Rattle.std.specs.Io.{StartsWith}
-use Rattle.layer_base.specs.AddressSpace.{AddressSpace}
+use Rattle.session.specs.Evidence.{Evidence}
 use Rattle.layer_base.proofs.Appending.{StartsWith-from}
 use Rattle.session.specs.Headline.{lines_before_last}
 use Rattle.session.specs.Lines.{Lines, cut_lines, lines_of, unless_empty}
@@ -13,21 +13,21 @@ use Rattle.session.specs.declared.line_buffer.TheConstants.{LINE_ROOM}
 use Rattle.session.proofs.Clipped.{line_text-clipped, clipped-push}
 use Rattle.session.proofs.Cutting.{pushed, cut-push}
 
-texts_of-append : (memory : AddressSpace) (lines more : List (List ℕ)) → texts_of memory (lines ++ more) ≡ texts_of memory lines ++ texts_of memory more
-texts_of-append memory lines more = flat_map-append (line_text memory) lines more
+texts_of-append : (evidence : Evidence) (lines more : List (List ℕ)) → texts_of evidence (lines ++ more) ≡ texts_of evidence lines ++ texts_of evidence more
+texts_of-append evidence lines more = flat_map-append (line_text evidence) lines more
 
 -- one byte more: the texts of the whole lines
-pub texts-push : (memory : AddressSpace) (given : List ℕ) (byte : ℕ) → texts_of memory (cut_lines (given ++ byte ∷ [])).whole ≡ texts_of memory (cut_lines given).whole ++ turn_text memory (take LINE_ROOM (cut_lines given).rest) byte
-texts-push memory given byte = ap (λ lines. texts_of memory lines.whole) (cut-push given byte) ∙ at_byte (eqb byte 10)
+pub texts-push : (evidence : Evidence) (given : List ℕ) (byte : ℕ) → texts_of evidence (cut_lines (given ++ byte ∷ [])).whole ≡ texts_of evidence (cut_lines given).whole ++ turn_text evidence (take LINE_ROOM (cut_lines given).rest) byte
+texts-push evidence given byte = ap (λ lines. texts_of evidence lines.whole) (cut-push given byte) ∙ at_byte (eqb byte 10)
   where
     lines : Lines
     lines = cut_lines given
 
-    at_byte : (newline : Bool) → texts_of memory (pushed newline byte lines).whole ≡ texts_of memory lines.whole ++ cond newline (line_text memory (take LINE_ROOM lines.rest)) []
+    at_byte : (newline : Bool) → texts_of evidence (pushed newline byte lines).whole ≡ texts_of evidence lines.whole ++ cond newline (line_text evidence (take LINE_ROOM lines.rest)) []
     at_byte true =
-        texts_of-append memory lines.whole (lines.rest ∷ [])
-        ∙ ap (λ (l : List ℕ). texts_of memory lines.whole ++ l) (append-nil (line_text memory lines.rest) ∙ sym (line_text-clipped memory lines.rest))
-    at_byte false = sym (append-nil (texts_of memory lines.whole))
+        texts_of-append evidence lines.whole (lines.rest ∷ [])
+        ∙ ap (λ (l : List ℕ). texts_of evidence lines.whole ++ l) (append-nil (line_text evidence lines.rest) ∙ sym (line_text-clipped evidence lines.rest))
+    at_byte false = sym (append-nil (texts_of evidence lines.whole))
 
 -- one byte more: the line that is kept
 pub rest-push : (given : List ℕ) (byte : ℕ) → take LINE_ROOM (cut_lines (given ++ byte ∷ [])).rest ≡ turn_line (take LINE_ROOM (cut_lines given).rest) byte
@@ -62,31 +62,31 @@ lines_before_last-push given byte = ap cut_before_last (cut-push given byte) ∙
     at_byte false = ap (λ (l : List (List ℕ)). take (length (lines.whole ++ l) - 1) (lines.whole ++ l)) (unless_empty-push lines.rest byte) ∙ but_last lines.whole (lines.rest ++ byte ∷ [])
 
 -- the texts of all lines are those of the whole lines and of the rest
-pub texts-all : (memory : AddressSpace) (given : List ℕ) → texts_of memory (lines_of given) ≡ texts_of memory (cut_lines given).whole ++ rest_text memory (cut_lines given).rest
-texts-all memory given = texts_of-append memory (cut_lines given).whole (unless_empty (cut_lines given).rest)
+pub texts-all : (evidence : Evidence) (given : List ℕ) → texts_of evidence (lines_of given) ≡ texts_of evidence (cut_lines given).whole ++ rest_text evidence (cut_lines given).rest
+texts-all evidence given = texts_of-append evidence (cut_lines given).whole (unless_empty (cut_lines given).rest)
 
 -- the lines before the last are among the whole lines
-pub texts-before_last : (memory : AddressSpace) (given : List ℕ) → StartsWith (texts_of memory (cut_lines given).whole) (texts_of memory (lines_before_last given))
-texts-before_last memory given = among (cut_lines given).whole (cut_lines given).rest
+pub texts-before_last : (evidence : Evidence) (given : List ℕ) → StartsWith (texts_of evidence (cut_lines given).whole) (texts_of evidence (lines_before_last given))
+texts-before_last evidence given = among (cut_lines given).whole (cut_lines given).rest
   where
-    among : (whole : List (List ℕ)) (rest : List ℕ) → StartsWith (texts_of memory whole) (texts_of memory (take (length (whole ++ unless_empty rest) - 1) (whole ++ unless_empty rest)))
+    among : (whole : List (List ℕ)) (rest : List ℕ) → StartsWith (texts_of evidence whole) (texts_of evidence (take (length (whole ++ unless_empty rest) - 1) (whole ++ unless_empty rest)))
     among whole [] =
         let n = length (whole ++ []) - 1 in
-        StartsWith-from _ _ (texts_of memory (drop n (whole ++ []))) (
-        ap (texts_of memory) (sym (append-nil whole) ∙ sym (take-append-drop n (whole ++ []))) ∙ texts_of-append memory (take n (whole ++ [])) (drop n (whole ++ []))
+        StartsWith-from _ _ (texts_of evidence (drop n (whole ++ []))) (
+        ap (texts_of evidence) (sym (append-nil whole) ∙ sym (take-append-drop n (whole ++ []))) ∙ texts_of-append evidence (take n (whole ++ [])) (drop n (whole ++ []))
         )
-    among whole (byte ∷ bytes) = StartsWith-from _ _ [] (ap (texts_of memory) (sym (but_last whole (byte ∷ bytes))) ∙ sym (append-nil _))
+    among whole (byte ∷ bytes) = StartsWith-from _ _ [] (ap (texts_of evidence) (sym (but_last whole (byte ∷ bytes))) ∙ sym (append-nil _))
 
 -- more bytes leave the whole lines in front
-pub texts-more : (memory : AddressSpace) (given more : List ℕ) → StartsWith (texts_of memory (cut_lines (given ++ more)).whole) (texts_of memory (cut_lines given).whole)
-texts-more memory given more = let after = behind given more in StartsWith-from _ _ after.0 after.1
+pub texts-more : (evidence : Evidence) (given more : List ℕ) → StartsWith (texts_of evidence (cut_lines (given ++ more)).whole) (texts_of evidence (cut_lines given).whole)
+texts-more evidence given more = let after = behind given more in StartsWith-from _ _ after.0 after.1
   where
-    behind : (given more : List ℕ) → (tail : List ℕ) × (texts_of memory (cut_lines (given ++ more)).whole ≡ texts_of memory (cut_lines given).whole ++ tail)
-    behind given [] = ([], ap (λ (l : List ℕ). texts_of memory (cut_lines l).whole) (append-nil given) ∙ sym (append-nil _))
+    behind : (given more : List ℕ) → (tail : List ℕ) × (texts_of evidence (cut_lines (given ++ more)).whole ≡ texts_of evidence (cut_lines given).whole ++ tail)
+    behind given [] = ([], ap (λ (l : List ℕ). texts_of evidence (cut_lines l).whole) (append-nil given) ∙ sym (append-nil _))
     behind given (byte ∷ more) =
         let next = behind (given ++ byte ∷ []) more in
-        let turn = turn_text memory (take LINE_ROOM (cut_lines given).rest) byte in (
+        let turn = turn_text evidence (take LINE_ROOM (cut_lines given).rest) byte in (
           turn ++ next.0,
-          ap (λ (l : List ℕ). texts_of memory (cut_lines l).whole) (sym (append_assoc given (byte ∷ []) more)) ∙ next.1
-              ∙ ap (λ (l : List ℕ). l ++ next.0) (texts-push memory given byte) ∙ append_assoc (texts_of memory (cut_lines given).whole) turn next.0,
+          ap (λ (l : List ℕ). texts_of evidence (cut_lines l).whole) (sym (append_assoc given (byte ∷ []) more)) ∙ next.1
+              ∙ ap (λ (l : List ℕ). l ++ next.0) (texts-push evidence given byte) ∙ append_assoc (texts_of evidence (cut_lines given).whole) turn next.0,
         )

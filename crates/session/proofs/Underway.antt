@@ -2,7 +2,7 @@
 use Rattle.std.proofs.Common.{◌≡◌, ℕ, ◌+◌, Bool, true, false, cond, eqb, List, [], ◌∷◌, ◌++◌, length, take, Option, None, Some, refl, sym, subst, ◌∙◌, ap, arith, append_assoc}
 use Rattle.std.proofs.lemmas.List.{append-nil, length_push}
 use Rattle.std.specs.Io.KnownBytes.{Appends, Consumes, IsAtEnd, Keeps}
-use Rattle.layer_base.specs.AddressSpace.{AddressSpace}
+use Rattle.session.specs.Evidence.{Evidence}
 use Rattle.layer_base.proofs.Appending.{Appends-none, Appends-append}
 use Rattle.session.specs.Lines.{Lines, cut_lines}
 use Rattle.session.specs.Script.{texts_of, is_quit}
@@ -16,11 +16,11 @@ use Rattle.session.proofs.Texts.{texts-push, rest-push}
 
 -- so many bytes were given, the lines that they end were run, none of which was a `quit`, and the line that they began
 -- is kept
-pub record Underway (memory : AddressSpace) (script : List ℕ) (left out out' : Option (List ℕ)) (line : List ℕ) (count : ℕ) : Type 0 where
+pub record Underway (evidence : Evidence) (script : List ℕ) (left out out' : Option (List ℕ)) (line : List ℕ) (count : ℕ) : Type 0 where
   pub given : List ℕ
   pub count_is : length given ≡ count
   pub taken : Consumes (Some script) left given
-  pub written : Appends out out' (texts_of memory (cut_lines given).whole)
+  pub written : Appends out out' (texts_of evidence (cut_lines given).whole)
   pub line_is : line ≡ take LINE_ROOM (cut_lines given).rest
   pub no_quit : NoneQuits (cut_lines given).whole
 
@@ -59,21 +59,21 @@ none-push given byte none flow = subst (λ lines. NoneQuits lines.whole) (sym (c
     at_byte true is = NoneQuits-push lines.whole lines.rest none (sym (is_quit-clipped lines.rest) ∙ goes_on (is_quit (take LINE_ROOM lines.rest)) is)
     at_byte false is = none
 
-module _ (memory : AddressSpace) (script : List ℕ) where
-  pub Underway-start : (out : Option (List ℕ)) → Underway memory script (Some script) out out [] 0
+module _ (evidence : Evidence) (script : List ℕ) where
+  pub Underway-start : (out : Option (List ℕ)) → Underway evidence script (Some script) out out [] 0
   Underway-start out = record { given = []; count_is = refl; taken = refl; written = Appends-none out; line_is = refl; no_quit = tt }
 
   pub Underway-next : (left left' out out' out'' : Option (List ℕ)) (line line' : List ℕ) (count byte : ℕ)
-      → Underway memory script left out out' line count → Consumes left left' (byte ∷ []) → Appends out' out'' (turn_text memory line byte) → line' ≡ turn_line line byte → NextLine ≡ turn_flow line byte
-      → Underway memory script left' out out'' line' (count + 1)
+      → Underway evidence script left out out' line count → Consumes left left' (byte ∷ []) → Appends out' out'' (turn_text evidence line byte) → line' ≡ turn_line line byte → NextLine ≡ turn_flow line byte
+      → Underway evidence script left' out out'' line' (count + 1)
   Underway-next left left' out out' out'' line line' count byte before taken written next flow =
       let given = before.given in
       record {
         given = given ++ byte ∷ [];
         count_is = omega (arith, length_push given byte, before.count_is);
         taken = Consumes-append script left left' given (byte ∷ []) before.taken taken;
-        written = subst (Appends out out'') (ap (λ l. texts_of memory (cut_lines given).whole ++ turn_text memory l byte) before.line_is ∙ sym (texts-push memory given byte)) (
-            Appends-append out out' out'' (texts_of memory (cut_lines given).whole) (turn_text memory line byte) before.written written
+        written = subst (Appends out out'') (ap (λ l. texts_of evidence (cut_lines given).whole ++ turn_text evidence l byte) before.line_is ∙ sym (texts-push evidence given byte)) (
+            Appends-append out out' out'' (texts_of evidence (cut_lines given).whole) (turn_text evidence line byte) before.written written
             );
         line_is = next ∙ ap (λ l. turn_line l byte) before.line_is ∙ sym (rest-push given byte);
         no_quit = none-push given byte before.no_quit (flow ∙ ap (λ l. turn_flow l byte) before.line_is);

@@ -4,7 +4,7 @@ use Rattle.std.specs.Prelude.{codes}
 use Rattle.std.specs.Io.{StartsWith}
 use Rattle.std.proofs.lemmas.Bool.Decides.{nat_tests}
 use Rattle.std.proofs.Math.Seq.{take-append-add}
-use Rattle.layer_base.specs.AddressSpace.{AddressSpace}
+use Rattle.session.specs.Evidence.{Evidence}
 use Rattle.layer_base.proofs.Appending.{StartsWith-from, StartsWith-trans}
 use Rattle.session.specs.Lines.{cut_lines}
 use Rattle.session.specs.Run.{bytes_run}
@@ -23,12 +23,12 @@ is_short-past script past = grind (arith, nat_tests)
 is_short-false : (script : List ℕ) → is_short script ≡ false → 16777216 < length script
 is_short-false script is = grind (arith, nat_tests)
 
-module _ (memory : AddressSpace) (script : List ℕ) where
-  pub text-short : is_short script ≡ true → script_text memory script ≡ texts_of memory (cut_lines script).whole ++ rest_text memory (cut_lines script).rest
+module _ (evidence : Evidence) (script : List ℕ) where
+  pub text-short : is_short script ≡ true → script_text evidence script ≡ texts_of evidence (cut_lines script).whole ++ rest_text evidence (cut_lines script).rest
   unfolding script_text
-  text-short short = rw short (texts-all memory script)
+  text-short short = rw short (texts-all evidence script)
 
-  pub text-long : is_short script ≡ false → script_text memory script ≡ texts_of memory (cut_lines (take MAX_SCRIPT script)).whole ++ codes "script too long\n"
+  pub text-long : is_short script ≡ false → script_text evidence script ≡ texts_of evidence (cut_lines (take MAX_SCRIPT script)).whole ++ codes "script too long\n"
   unfolding script_text
   text-long long = rw long refl
 
@@ -40,37 +40,37 @@ module _ (memory : AddressSpace) (script : List ℕ) where
   unfolding script_taken
   taken-long long = rw long refl
 
-  pub status-short : is_short script ≡ true → (bytes_run memory script).status ≡ status.Ok
+  pub status-short : is_short script ≡ true → (bytes_run evidence script).status ≡ status.Ok
   status-short short = rw short refl
 
-  pub status-long : is_short script ≡ false → (bytes_run memory script).status ≡ status.ScriptTooLong
+  pub status-long : is_short script ≡ false → (bytes_run evidence script).status ≡ status.ScriptTooLong
   status-long long = rw long refl
 
 -- a front of a script that is read
-module _ (memory : AddressSpace) (script given more : List ℕ) (split : script ≡ given ++ more) where
+module _ (evidence : Evidence) (script given more : List ℕ) (split : script ≡ given ++ more) where
   -- the texts of its whole lines stand in front of the script's
-  pub text-front : length given ≤ 16777216 → StartsWith (script_text memory script) (texts_of memory (cut_lines given).whole)
+  pub text-front : length given ≤ 16777216 → StartsWith (script_text evidence script) (texts_of evidence (cut_lines given).whole)
   text-front within = by_length (is_short script) refl
     where
-      front : (others : List ℕ) (whole : List ℕ) → whole ≡ given ++ others → (text : List ℕ) (rest : List ℕ) → text ≡ texts_of memory (cut_lines whole).whole ++ rest → StartsWith text (texts_of memory (cut_lines given).whole)
+      front : (others : List ℕ) (whole : List ℕ) → whole ≡ given ++ others → (text : List ℕ) (rest : List ℕ) → text ≡ texts_of evidence (cut_lines whole).whole ++ rest → StartsWith text (texts_of evidence (cut_lines given).whole)
       front others whole is text rest text_is =
-          StartsWith-trans text (texts_of memory (cut_lines (given ++ others)).whole) _
-          (StartsWith-from text _ rest (text_is ∙ ap (λ (l : List ℕ). texts_of memory (cut_lines l).whole ++ rest) is)) (texts-more memory given others)
+          StartsWith-trans text (texts_of evidence (cut_lines (given ++ others)).whole) _
+          (StartsWith-from text _ rest (text_is ∙ ap (λ (l : List ℕ). texts_of evidence (cut_lines l).whole ++ rest) is)) (texts-more evidence given others)
 
-      by_length : (b : Bool) → is_short script ≡ b → StartsWith (script_text memory script) (texts_of memory (cut_lines given).whole)
-      by_length true short = front more script split (script_text memory script) (rest_text memory (cut_lines script).rest) (text-short memory script short)
+      by_length : (b : Bool) → is_short script ≡ b → StartsWith (script_text evidence script) (texts_of evidence (cut_lines given).whole)
+      by_length true short = front more script split (script_text evidence script) (rest_text evidence (cut_lines script).rest) (text-short evidence script short)
       by_length false long =
           let n = 16777216 - length given in
           let all : 16777216 ≡ length given + n = omega arith in
-          front (take n more) (take MAX_SCRIPT script) (ap (take MAX_SCRIPT) split ∙ ap (λ k. take k (given ++ more)) all ∙ take-append-add given more n) (script_text memory script) (codes "script too long\n") (text-long memory script long)
+          front (take n more) (take MAX_SCRIPT script) (ap (take MAX_SCRIPT) split ∙ ap (λ k. take k (given ++ more)) all ∙ take-append-add given more n) (script_text evidence script) (codes "script too long\n") (text-long evidence script long)
 
   -- and its bytes in front of those that are taken
   pub taken-front : length given ≤ 16777217 → StartsWith (script_taken script) given
   taken-front within = by_length (is_short script) refl
     where
       by_length : (b : Bool) → is_short script ≡ b → StartsWith (script_taken script) given
-      by_length true short = StartsWith-from _ given more (taken-short memory script short ∙ split)
+      by_length true short = StartsWith-from _ given more (taken-short evidence script short ∙ split)
       by_length false long =
           let n = 16777217 - length given in
           let all : 16777217 ≡ length given + n = omega arith in
-          StartsWith-from _ given (take n more) (taken-long memory script long ∙ ap (take 16777217) split ∙ ap (λ k. take k (given ++ more)) all ∙ take-append-add given more n)
+          StartsWith-from _ given (take n more) (taken-long evidence script long ∙ ap (take 16777217) split ∙ ap (λ k. take k (given ++ more)) all ∙ take-append-add given more n)

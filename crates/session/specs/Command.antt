@@ -1,4 +1,4 @@
--- What a command prints over the memory of an image.
+-- What a command prints.
 use Rattle.std.specs.Prelude.{ℕ, List, [], ◌++◌, codes, Option, None, Some}
 use Rattle.layer_base.specs.AddressSpace.{AddressSpace, bytes_from}
 use Rattle.layer_base.specs.Space.{page_address}
@@ -13,7 +13,9 @@ use Rattle.command_words.specs.declared.command.Command.TheVariants as commands
 use Rattle.command_words.specs.declared.command.SpaceWord.{SpaceWord}
 use Rattle.command_words.specs.declared.command.SpaceWord.TheVariants as words
 use Rattle.hex_text.specs.DumpRow.{address_cell, dump_text}
+use Rattle.session.specs.Evidence.{Evidence}
 use Rattle.session.specs.Fault.{unknown_text}
+use Rattle.session.specs.Lookup.{layout_text, symbol_text, near_text}
 use Rattle.session.specs.declared.place.Place.{Place}
 
 -- the space of a word, None for a space that is not looked at yet
@@ -55,9 +57,12 @@ abbrev pub translate_text : AddressSpace → Place → List ℕ
 translate_text memory place = translation_row place.at (translation memory place.space place.at)
 
 -- Commands that don't run yet are unknown.
-abbrev pub command_text : AddressSpace → Command → List ℕ
-command_text memory commands.Nothing = []
-command_text memory commands.Quit = []
-command_text memory (commands.Read space at len) = text_at (place_of space at) (read_text memory len)
-command_text memory (commands.Translate space at) = text_at (place_of space at) (translate_text memory)
-command_text memory _ = unknown_text
+abbrev pub command_text : Evidence → Command → List ℕ
+command_text evidence commands.Nothing = []
+command_text evidence commands.Quit = []
+command_text evidence (commands.Read space at len) = text_at (place_of space at) (read_text evidence.memory len)
+command_text evidence (commands.Translate space at) = text_at (place_of space at) (translate_text evidence.memory)
+command_text evidence (commands.Layout name) = layout_text evidence.table name
+command_text evidence (commands.Symbol name) = symbol_text evidence.table name
+command_text evidence (commands.Near number) = near_text evidence.table number
+command_text evidence _ = unknown_text

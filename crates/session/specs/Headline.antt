@@ -2,7 +2,7 @@
 use Rattle.std.specs.Prelude.{◌≡◌, ℕ, ◌-◌, List, length, take, Option, IfSome}
 use Rattle.std.specs.Io.{StartsWith}
 use Rattle.std.specs.Io.KnownBytes.{Appends, Consumes}
-use Rattle.layer_base.specs.AddressSpace.{AddressSpace}
+use Rattle.session.specs.Evidence.{Evidence}
 use Rattle.layer_base.specs.View.{View}
 use Rattle.session.specs.Lines.{cut_lines, lines_of}
 use Rattle.session.specs.Script.{texts_of}
@@ -23,8 +23,8 @@ lines_before_last bytes = take (length (lines_of bytes) - 1) (lines_of bytes)
 
 -- Of the bytes that the script gave, each line but the last has its whole text in what was appended. Where a call on
 -- the script failed, each line has it whose newline was given.
-abbrev pub HasWholeLines : AddressSpace → Option (List ℕ) → Option (List ℕ) → Option (List ℕ) → Option (List ℕ) → Status → Type 0
-HasWholeLines memory script script' out out' status =
+abbrev pub HasWholeLines : Evidence → Option (List ℕ) → Option (List ℕ) → Option (List ℕ) → Option (List ℕ) → Status → Type 0
+HasWholeLines evidence script script' out out' status =
     (given : List ℕ) × (appended : List ℕ) × Consumes script script' given × Appends out out' appended
-    × StartsWith appended (texts_of memory (lines_before_last given))
-    × (status ≡ ScriptFault → StartsWith appended (texts_of memory (cut_lines given).whole))
+    × StartsWith appended (texts_of evidence (lines_before_last given))
+    × (status ≡ ScriptFault → StartsWith appended (texts_of evidence (cut_lines given).whole))

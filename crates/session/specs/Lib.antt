@@ -1,13 +1,16 @@
 pub mod Causes
 pub mod Command
+pub mod Evidence
 pub mod Fault
 pub mod Headline
 pub mod Lines
+pub mod Lookup
 pub mod Ran
 pub mod Read
 pub mod Run
 pub mod Script
 pub mod Stack
 pub mod Status
+pub mod SymbolFile
 pub mod Turn
 pub mod Words

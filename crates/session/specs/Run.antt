@@ -3,8 +3,12 @@ use Rattle.std.specs.Prelude.{ℕ, if◌then◌else◌, List, [], codes, Result,
 use Rattle.layer_base.specs.AddressSpace.{AddressSpace}
 use Rattle.layer_base.specs.View.{View, physical}
 use Rattle.layer_base.specs.declared.layer.Kind.{Kind}
+use Rattle.isf_reader.specs.Table.{Sections, table_of}
+use Rattle.isf_reader.specs.declared.refusal.IsfRefusal.{IsfRefusal}
+use Rattle.session.specs.Evidence.{Evidence, evidence_over}
 use Rattle.session.specs.Script.{is_short, script_text, script_taken, through_quit}
-use Rattle.session.specs.Stack.{Shown, as_file, stack_of, attached, refusal_text}
+use Rattle.session.specs.Stack.{Shown, as_file, stack_of, attached, attached_view, refusal_text}
+use Rattle.session.specs.SymbolFile.{symbols_taken, symbols_refusal_text}
 use Rattle.session.specs.Words.{are_accepted}
 use Rattle.session.specs.declared.stack.Refusal.{Refusal}
 use Rattle.session.specs.declared.status.Status.{Status}
@@ -28,18 +32,18 @@ refused = record {
 }
 
 -- what bytes of a script come to of which none follow a `quit`
-abbrev pub bytes_run : AddressSpace → List ℕ → Outcome
-bytes_run memory bytes = record {
+abbrev pub bytes_run : Evidence → List ℕ → Outcome
+bytes_run evidence bytes = record {
   status = if is_short bytes then status.Ok else status.ScriptTooLong;
-  text = script_text memory bytes;
+  text = script_text evidence bytes;
   dumped = [];
   symbols_taken = [];
   script_taken = script_taken bytes;
 }
 
 -- a script is run through its first `quit`; the bytes behind it are neither looked at nor taken
-abbrev pub script_run : AddressSpace → List ℕ → Outcome
-script_run memory script = bytes_run memory (through_quit script)
+abbrev pub script_run : Evidence → List ℕ → Outcome
+script_run evidence script = bytes_run evidence (through_quit script)
 
 -- nothing is taken of the symbol file and of the script
 abbrev pub image_refused : Refusal → Outcome
@@ -51,15 +55,48 @@ image_refused refusal = record {
   script_taken = [];
 }
 
--- the script is run over the memory of what the image shows
-abbrev pub stack_run : Result Shown Refusal → List ℕ → Outcome
-stack_run (Ok shown) script = script_run (physical shown.view) script
-stack_run (Err refusal) script = image_refused refusal
+-- nothing is taken of the script
+abbrev pub symbols_refused : IsfRefusal → Outcome
+symbols_refused refusal = record {
+  status = status.SymbolsRefused;
+  text = symbols_refusal_text refusal;
+  dumped = [];
+  symbols_taken = [];
+  script_taken = [];
+}
 
--- Words that aren't accepted are refused, and nothing is taken. Else the formats are tried on the image, and the
--- script is run over what it shows then. The symbol file isn't read.
+-- the script is run over a memory and the table of a symbol file
+abbrev pub table_run : AddressSpace → Result Sections IsfRefusal → List ℕ → Outcome
+table_run memory (Ok table) script = script_run (record { memory = memory; table = table }) script
+table_run memory (Err refusal) script = symbols_refused refusal
+
+-- the symbol file was taken before that
+abbrev pub behind_symbols : List ℕ → Outcome → Outcome
+behind_symbols symbols outcome = record {
+  status = outcome.status;
+  text = outcome.text;
+  dumped = outcome.dumped;
+  symbols_taken = symbols_taken symbols;
+  script_taken = outcome.script_taken;
+}
+
+-- the symbol file is read, and then the script is run over a memory
+abbrev pub memory_run : AddressSpace → List ℕ → List ℕ → Outcome
+memory_run memory symbols script = behind_symbols symbols (table_run memory (table_of symbols) script)
+
+-- over the memory of what the image shows
+abbrev pub stack_run : Result Shown Refusal → List ℕ → List ℕ → Outcome
+stack_run (Ok shown) symbols script = memory_run (physical shown.view) symbols script
+stack_run (Err refusal) symbols script = image_refused refusal
+
+-- Words that aren't accepted are refused, and nothing is taken. Else the formats are tried on the image, the symbol file
+-- is read, and the script is run over what they show.
 unfoldable pub run_of : List (List ℕ) → List Kind → View → List ℕ → List ℕ → Outcome
-run_of words formats view symbols script = if are_accepted words then stack_run (stack_of formats view) script else refused
+run_of words formats view symbols script = if are_accepted words then stack_run (stack_of formats view) symbols script else refused
+
+-- what a script is run over, where the symbol file is not refused
+abbrev pub evidence_of : List Kind → View → List ℕ → Evidence
+evidence_of formats view symbols = evidence_over (physical (attached_view formats view)) symbols
 
 -- what the image shows after such a run
 abbrev pub shown_of : List (List ℕ) → List Kind → View → Shown

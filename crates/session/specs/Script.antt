@@ -1,7 +1,7 @@
--- What a script comes to, over the memory of an image.
+-- What a script comes to, over the evidence of an image and a symbol file.
 use Rattle.std.specs.Prelude.{ℕ, ◌+◌, Bool, true, false, nat_le, if◌then◌else◌, List, [], ◌∷◌, ◌++◌, length, take, codes, Result, Ok, Err}
 use Rattle.std.specs.List.{flat_map}
-use Rattle.layer_base.specs.AddressSpace.{AddressSpace}
+use Rattle.session.specs.Evidence.{Evidence}
 use Rattle.command_words.specs.Line.{command_of}
 use Rattle.command_words.specs.declared.command.Command.{Command}
 use Rattle.command_words.specs.declared.command.Command.TheVariants.{Quit}
@@ -12,16 +12,16 @@ use Rattle.session.specs.Lines.{cut_lines, lines_of}
 use Rattle.session.specs.declared.script.TheConstants.{MAX_SCRIPT}
 
 -- what a line's command prints
-abbrev pub text_of : AddressSpace → Result Command LineFault → List ℕ
-text_of memory (Ok command) = command_text memory command
-text_of memory (Err fault) = fault_text fault
+abbrev pub text_of : Evidence → Result Command LineFault → List ℕ
+text_of evidence (Ok command) = command_text evidence command
+text_of evidence (Err fault) = fault_text fault
 
-abbrev pub line_text : AddressSpace → List ℕ → List ℕ
-line_text memory line = text_of memory (command_of line)
+abbrev pub line_text : Evidence → List ℕ → List ℕ
+line_text evidence line = text_of evidence (command_of line)
 
 -- the texts of lines, one after another
-abbrev pub texts_of : AddressSpace → List (List ℕ) → List ℕ
-texts_of memory lines = flat_map (line_text memory) lines
+abbrev pub texts_of : Evidence → List (List ℕ) → List ℕ
+texts_of evidence lines = flat_map (line_text evidence) lines
 
 -- the command that ends a script
 abbrev pub ends_script : Result Command LineFault → Bool
@@ -46,11 +46,11 @@ is_short bytes = nat_le (length bytes) MAX_SCRIPT
 
 -- The texts of the lines of bytes. Where there are too many, the texts of the lines whose newline stands within those
 -- that are read, and a line that says so.
-unfoldable pub script_text : AddressSpace → List ℕ → List ℕ
-script_text memory bytes =
+unfoldable pub script_text : Evidence → List ℕ → List ℕ
+script_text evidence bytes =
     if is_short bytes
-    then texts_of memory (lines_of bytes)
-    else texts_of memory (cut_lines (take MAX_SCRIPT bytes)).whole ++ codes "script too long\n"
+    then texts_of evidence (lines_of bytes)
+    else texts_of evidence (cut_lines (take MAX_SCRIPT bytes)).whole ++ codes "script too long\n"
 
 -- how much is taken: all, or one byte more than may be read
 unfoldable pub script_taken : List ℕ → List ℕ

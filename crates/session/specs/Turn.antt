@@ -1,6 +1,6 @@
 -- What one byte more of a script does.
 use Rattle.std.specs.Prelude.{ℕ, ◌==◌, Bool, true, false, if◌then◌else◌, List, [], ◌∷◌, ◌++◌, take, Ok}
-use Rattle.layer_base.specs.AddressSpace.{AddressSpace}
+use Rattle.session.specs.Evidence.{Evidence}
 use Rattle.session.specs.Lines.{unless_empty}
 use Rattle.command_words.specs.declared.command.Command.{Command}
 use Rattle.session.specs.Script.{line_text, texts_of, ends_script, is_quit}
@@ -9,8 +9,8 @@ use Rattle.session.specs.declared.command.Flow.TheVariants.{NextLine, Quit}
 use Rattle.session.specs.declared.line_buffer.TheConstants.{LINE_ROOM}
 
 -- a newline runs the line
-abbrev pub turn_text : AddressSpace → List ℕ → ℕ → List ℕ
-turn_text memory line byte = if byte == 10 then line_text memory line else []
+abbrev pub turn_text : Evidence → List ℕ → ℕ → List ℕ
+turn_text evidence line byte = if byte == 10 then line_text evidence line else []
 
 -- the line after it
 abbrev pub turn_line : List ℕ → ℕ → List ℕ
@@ -32,5 +32,5 @@ abbrev pub turn_flow : List ℕ → ℕ → Flow
 turn_flow line byte = if byte == 10 then flow_after line else NextLine
 
 -- the end of a script runs the line that lacks its newline
-abbrev pub rest_text : AddressSpace → List ℕ → List ℕ
-rest_text memory line = texts_of memory (unless_empty line)
+abbrev pub rest_text : Evidence → List ℕ → List ℕ
+rest_text evidence line = texts_of evidence (unless_empty line)

@@ -2,17 +2,20 @@
 ghost use Rattle.std.specs.Prelude.{◌≡◌, string_bytes, IsErrOf, IfOk, IfSome};
 ghost use Rattle.layer_base.specs.Counts.{HasCause};
 ghost use Rattle.layer_base.specs.Known.{Writes};
-ghost use Rattle.layer_base.specs.View.{physical};
 ghost use Rattle.space_memory.specs.State.{IsSameMemory};
 ghost use Rattle.command_words.specs.Limits.{KeepsLimits};
+ghost use Rattle.session.specs.Evidence.{evidence_in};
 ghost use Rattle.session.specs.Command.{command_text};
 ghost use Rattle.session.specs.Fault.{wanted_text, unknown_text, fault_text};
 ghost use Rattle.session.specs.Script.{line_text};
 ghost use Rattle.session.specs.Turn.{flow_of, flow_after};
 
+use crate::layout::layout_text;
+use crate::lookup::{near_text, symbol_text};
 use crate::place::place_of;
 use crate::read::{Page, write_read};
 use crate::status::CommandFault;
+use crate::symbol_file::SymbolFile;
 use crate::translate::write_translation;
 use command_words::{Command, LineFault, parse_line};
 use layer_base::{Layer, Sink, Steps, write_whole};
@@ -40,13 +43,14 @@ fn flow_of(command: &Command) -> Flow
 pub(crate) fn run_line<Y: Layer, O: Sink, L: Ledger>(
     alloc: Global,
     memory: &mut Memory<Y>,
+    file: &SymbolFile<'_>,
     page: &mut Page,
     line: &[u8],
     out: &mut O,
     steps: &mut Steps<L>,
 ) -> Result<Flow, CommandFault>
     ensures text { IfSome memory.old.view (λ view.
-        Writes (O.written out.old) (O.written out.new) result (line_text (physical view) line.now)) }
+        Writes (O.written out.old) (O.written out.new) result (line_text (evidence_in view file.now.table.now) line.now)) }
     ensures flow { IfOk result (λ flow. flow ≡ flow_after line.now) }
     ensures memory { IsSameMemory memory.old memory.new }
     ensures image { HasCause memory.old.faults memory.new.faults (IsErrOf result CommandFault.Image) }
@@ -54,7 +58,7 @@ pub(crate) fn run_line<Y: Layer, O: Sink, L: Ledger>(
 {
     match parse_line(alloc, line) {
         Ok(command) => {
-            run_command(alloc, memory, page, &command, out, steps)?;
+            run_command(alloc, memory, file, page, &command, out, steps)?;
             Ok(flow_of(&command))
         }
         Err(LineFault::Memory) => Err(CommandFault::Memory),
@@ -69,6 +73,7 @@ pub(crate) fn run_line<Y: Layer, O: Sink, L: Ledger>(
 fn run_command<Y: Layer, O: Sink, L: Ledger>(
     alloc: Global,
     memory: &mut Memory<Y>,
+    file: &SymbolFile<'_>,
     page: &mut Page,
     command: &Command,
     out: &mut O,
@@ -76,7 +81,7 @@ fn run_command<Y: Layer, O: Sink, L: Ledger>(
 ) -> Result<(), CommandFault>
     requires { KeepsLimits command.now }
     ensures text { IfSome memory.old.view (λ view.
-        Writes (O.written out.old) (O.written out.new) result (command_text (physical view) command.now)) }
+        Writes (O.written out.old) (O.written out.new) result (command_text (evidence_in view file.now.table.now) command.now)) }
     ensures memory { IsSameMemory memory.old memory.new }
     ensures image { HasCause memory.old.faults memory.new.faults (IsErrOf result CommandFault.Image) }
     ensures out { HasCause (O.faults out.old) (O.faults out.new) (IsErrOf result CommandFault.Out) }
@@ -91,6 +96,9 @@ fn run_command<Y: Layer, O: Sink, L: Ledger>(
             Some(place) => write_translation(alloc, memory, place, out, steps),
             None => write_unknown(out),
         },
+        Command::Layout { name } => write_text(out, &layout_text(alloc, file.table, name)?),
+        Command::Symbol { name } => write_text(out, &symbol_text(alloc, &file.symbols, name)?),
+        Command::Near { number } => write_text(out, &near_text(alloc, &file.symbols, *number)?),
         _ => write_unknown(out),
     }
 }

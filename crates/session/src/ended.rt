@@ -1,16 +1,19 @@
-//! The top call: a run of a script over an image.
-ghost use Rattle.std.specs.Prelude.{◌≡◌, ℕ, ◌≤◌, ◌⊎◌, List, map, string_bytes, IfSome};
+//! The top call: a run of a script over an image and a symbol file.
+ghost use Rattle.std.specs.Prelude.{◌≡◌, ◌≤◌, ◌⊎◌, map, string_bytes, IfSome};
 ghost use Rattle.std.specs.Io.KnownBytes.{Appends, Consumes};
 ghost use Rattle.layer_base.specs.Counts.{HasCause};
 ghost use Rattle.layer_base.specs.Known.{AppendsPrefix};
 ghost use Rattle.layer_base.specs.SameLayer.{IsSameLayer};
 ghost use Rattle.layer_base.specs.View.{physical};
+ghost use Rattle.isf_reader.specs.Table.{table_of};
 ghost use Rattle.session.specs.Causes.{NothingFailed};
+ghost use Rattle.session.specs.Evidence.{table_in, evidence_in, evidence_over};
 ghost use Rattle.session.specs.Headline.{WhereTold, GavePrefix, HasWholeLines};
-ghost use Rattle.session.specs.Ran.{IsScriptEnd, RanOver};
-ghost use Rattle.session.specs.Run.{run_of, script_run, stack_run, shown_of};
-ghost use Rattle.session.specs.Stack.{stack_of, attached, attached_view, KeepsOrAttaches, Shows};
+ghost use Rattle.session.specs.Ran.{IsScriptEnd, IsTableEnd, IsRunEnd, RanOver, Took};
+ghost use Rattle.session.specs.Run.{run_of, script_run, table_run, memory_run, stack_run, shown_of, evidence_of};
+ghost use Rattle.session.specs.Stack.{stack_of, attached, KeepsOrAttaches, Shows};
 ghost use Rattle.session.specs.Status.{IsAnswer};
+ghost use Rattle.session.specs.SymbolFile.{symbols_taken};
 
 use crate::Status;
 use crate::command::write_text;
@@ -18,7 +21,10 @@ use crate::read::Page;
 use crate::script::run_script;
 use crate::stack::{StackFault, attach_formats, write_refusal};
 use crate::status::status_after;
+use crate::symbol_file::SymbolFile;
+use crate::symbols::{SymbolsFault, refuse_symbols, take_symbols};
 use crate::words::are_accepted;
+use isf_reader::Table;
 use layer_base::{Kind, Layer, Sink, Source, Steps};
 use space_memory::Memory;
 use std::alloc::Global;
@@ -31,21 +37,22 @@ pub struct Ended {
     pub layer: Box<dyn Layer>,
 }
 
-/// How many runs of pages a memory may keep.
+/// How many runs of pages a memory may keep. It keeps none yet.
 const KEPT_RUNS: usize = 4096;
 
 const USAGE: &[u8] = b"usage: memlens IMAGE SYMBOLS [DUMP] [--cache N] [--chunk N]\n";
 
-// Runs the script over what the image shows.
-fn run_memory<Y: Layer, S: Source, O: Sink, L: Ledger>(
+// Runs the script over what the image shows and the symbol file.
+fn run_file<Y: Layer, S: Source, O: Sink, L: Ledger>(
     alloc: Global,
     image: Y,
+    file: &SymbolFile<'_>,
     script: &mut S,
     out: &mut O,
     steps: &mut Steps<L>,
 ) -> (Status, Y)
     ensures ran { IfSome (Y.view image) (λ view. IfSome (S.left script.old) (λ bytes.
-        RanOver (physical view) (script_run (physical view) bytes) bytes (S.left script.new) (O.written out.old) (O.written out.new) result.0)) }
+        RanOver (evidence_in view file.now.table.now) (script_run (evidence_in view file.now.table.now) bytes) bytes (S.left script.new) (O.written out.old) (O.written out.new) result.0)) }
     ensures end { IsScriptEnd result.0 }
     ensures layer { IsSameLayer Y.view Y.kind Y.faults Y.calls image result.1 }
     ensures image { HasCause (Y.faults image) (Y.faults result.1) (result.0 ≡ Status.ImageFault) }
@@ -56,36 +63,114 @@ fn run_memory<Y: Layer, S: Source, O: Sink, L: Ledger>(
         Ok(memory) => {
             let mut memory = memory;
             let mut page = Page::new(alloc);
-            let status = run_script(alloc, &mut memory, &mut page, script, out, steps);
+            let status = run_script(alloc, &mut memory, file, &mut page, script, out, steps);
             (status, memory.into_layer())
         }
         Err(refused) => (Status::Memory, refused.phys),
     }
 }
 
+// Makes the index of a table, and runs the script over what the image shows and both.
+fn run_table<Y: Layer, S: Source, O: Sink, L: Ledger>(
+    alloc: Global,
+    image: Y,
+    table: &Table,
+    script: &mut S,
+    out: &mut O,
+    steps: &mut Steps<L>,
+) -> (Status, Y)
+    ensures ran { IfSome (Y.view image) (λ view. IfSome (S.left script.old) (λ bytes.
+        RanOver (evidence_in view table.now) (script_run (evidence_in view table.now) bytes) bytes (S.left script.new) (O.written out.old) (O.written out.new) result.0)) }
+    ensures end { IsScriptEnd result.0 }
+    ensures layer { IsSameLayer Y.view Y.kind Y.faults Y.calls image result.1 }
+    ensures image { HasCause (Y.faults image) (Y.faults result.1) (result.0 ≡ Status.ImageFault) }
+    ensures script { HasCause (S.faults script.old) (S.faults script.new) (result.0 ≡ Status.ScriptFault) }
+    ensures out { HasCause (O.faults out.old) (O.faults out.new) (result.0 ≡ Status.OutFault) }
+{
+    match SymbolFile::of(alloc, table) {
+        Ok(file) => run_file(alloc, image, &file, script, out, steps),
+        Err(_) => (Status::Memory, image),
+    }
+}
+
+// Runs the script over what the image shows and the bytes of the symbol file, or refuses these.
+fn run_bytes<Y: Layer, S: Source, O: Sink, L: Ledger>(
+    alloc: Global,
+    image: Y,
+    symbols: Vec<u8>,
+    script: &mut S,
+    out: &mut O,
+    steps: &mut Steps<L>,
+) -> (Status, Y)
+    ensures ran { IfSome (Y.view image) (λ view. IfSome (S.left script.old) (λ bytes.
+        RanOver (evidence_in view (table_in (table_of symbols.items))) (table_run (physical view) (table_of symbols.items) bytes) bytes (S.left script.new) (O.written out.old) (O.written out.new) result.0)) }
+    ensures end { IsTableEnd result.0 }
+    ensures layer { IsSameLayer Y.view Y.kind Y.faults Y.calls image result.1 }
+    ensures image { HasCause (Y.faults image) (Y.faults result.1) (result.0 ≡ Status.ImageFault) }
+    ensures script { HasCause (S.faults script.old) (S.faults script.new) (result.0 ≡ Status.ScriptFault) }
+    ensures out { HasCause (O.faults out.old) (O.faults out.new) (result.0 ≡ Status.OutFault) }
+{
+    let read = Table::read(alloc, &symbols);
+    drop(symbols);
+    match read {
+        Ok(table) => run_table(alloc, image, &table, script, out, steps),
+        Err(refusal) => (refuse_symbols(alloc, refusal, out), image),
+    }
+}
+
+// Takes the symbol file, and runs the script over what it and the image show.
+fn run_memory<Y: Layer, J: Source, S: Source, O: Sink, L: Ledger>(
+    alloc: Global,
+    image: Y,
+    symbols: &mut J,
+    script: &mut S,
+    out: &mut O,
+    steps: &mut Steps<L>,
+) -> (Status, Y)
+    ensures ran { WhereTold (Y.view image) (J.left symbols.old) (S.left script.old) (λ view j s.
+        RanOver (evidence_over (physical view) j) (memory_run (physical view) j s) s (S.left script.new) (O.written out.old) (O.written out.new) result.0) }
+    ensures took { IfSome (J.left symbols.old) (λ j. Took (symbols_taken j) (J.left symbols.old) (J.left symbols.new) result.0) }
+    ensures end { IsRunEnd result.0 }
+    ensures layer { IsSameLayer Y.view Y.kind Y.faults Y.calls image result.1 }
+    ensures image { HasCause (Y.faults image) (Y.faults result.1) (result.0 ≡ Status.ImageFault) }
+    ensures symbols { HasCause (J.faults symbols.old) (J.faults symbols.new) (result.0 ≡ Status.SymbolsFault) }
+    ensures script { HasCause (S.faults script.old) (S.faults script.new) (result.0 ≡ Status.ScriptFault) }
+    ensures out { HasCause (O.faults out.old) (O.faults out.new) (result.0 ≡ Status.OutFault) }
+{
+    match take_symbols(alloc, symbols) {
+        Ok(bytes) => run_bytes(alloc, image, bytes, script, out, steps),
+        Err(SymbolsFault::Failed) => (Status::SymbolsFault, image),
+        Err(SymbolsFault::Memory) => (Status::Memory, image),
+    }
+}
+
 // Tries the formats on the image, and runs the script over what it shows then.
-fn run_image<Y: Layer, S: Source, O: Sink, L: Ledger>(
+fn run_image<Y: Layer, J: Source, S: Source, O: Sink, L: Ledger>(
     alloc: Global,
     image: Y,
     formats: &[Kind],
+    symbols: &mut J,
     script: &mut S,
     out: &mut O,
     steps: &mut Steps<L>,
 ) -> (Status, Y)
     requires file { Y.kind image ≡ Kind.File }
-    ensures ran { IfSome (Y.view image) (λ before. IfSome (S.left script.old) (λ bytes.
-        RanOver (physical (attached_view formats.now before)) (stack_run (stack_of formats.now before) bytes) bytes (S.left script.new) (O.written out.old) (O.written out.new) result.0)) }
-    ensures end { IsScriptEnd result.0 }
+    ensures ran { WhereTold (Y.view image) (J.left symbols.old) (S.left script.old) (λ before j s.
+        RanOver (evidence_of formats.now before j) (stack_run (stack_of formats.now before) j s) s (S.left script.new) (O.written out.old) (O.written out.new) result.0) }
+    ensures took { WhereTold (Y.view image) (J.left symbols.old) (S.left script.old) (λ before j s.
+        Took (stack_run (stack_of formats.now before) j s).symbols_taken (J.left symbols.old) (J.left symbols.new) result.0) }
+    ensures end { IsRunEnd result.0 }
     ensures layer { KeepsOrAttaches formats.now (Y.view image) (Y.kind image) (Y.view result.1) (Y.kind result.1) }
     ensures shows { IfSome (Y.view image) (λ before. IsAnswer result.0 → Shows (attached formats.now before) (Y.view result.1) (Y.kind result.1)) }
     ensures calls { Y.calls image ≤ Y.calls result.1 }
     ensures image { HasCause (Y.faults image) (Y.faults result.1) (result.0 ≡ Status.ImageFault) }
+    ensures symbols { HasCause (J.faults symbols.old) (J.faults symbols.new) (result.0 ≡ Status.SymbolsFault) }
     ensures script { HasCause (S.faults script.old) (S.faults script.new) (result.0 ≡ Status.ScriptFault) }
     ensures out { HasCause (O.faults out.old) (O.faults out.new) (result.0 ≡ Status.OutFault) }
 {
     let mut image = image;
     match attach_formats(&mut image, formats) {
-        Ok(()) => run_memory(alloc, image, script, out, steps),
+        Ok(()) => run_memory(alloc, image, symbols, script, out, steps),
         Err(StackFault::Refused(refusal)) => {
             let refused = write_refusal(alloc, refusal, out);
             (status_after(Status::ImageRefused, refused), image)
@@ -96,39 +181,44 @@ fn run_image<Y: Layer, S: Source, O: Sink, L: Ledger>(
 }
 
 // A run over a layer that needn't be boxed.
-fn run_over<Y: Layer, S: Source, O: Sink, L: Ledger>(
+fn run_over<Y: Layer, J: Source, S: Source, O: Sink, L: Ledger>(
     alloc: Global,
     words: &[String],
     image: Y,
     formats: &[Kind],
+    symbols: &mut J,
     script: &mut S,
     out: &mut O,
     steps: &mut Steps<L>,
 ) -> (Status, Y)
     requires file { Y.kind image ≡ Kind.File }
-    ensures ran { IfSome (Y.view image) (λ before. IfSome (S.left script.old) (λ bytes. (symbols : List ℕ) →
-        RanOver (physical (attached_view formats.now before)) (run_of (map string_bytes words.now) formats.now before symbols bytes) bytes (S.left script.new) (O.written out.old) (O.written out.new) result.0)) }
-    ensures end { IsScriptEnd result.0 }
+    ensures ran { WhereTold (Y.view image) (J.left symbols.old) (S.left script.old) (λ before j s.
+        RanOver (evidence_of formats.now before j) (run_of (map string_bytes words.now) formats.now before j s) s (S.left script.new) (O.written out.old) (O.written out.new) result.0) }
+    ensures took { WhereTold (Y.view image) (J.left symbols.old) (S.left script.old) (λ before j s.
+        Took (run_of (map string_bytes words.now) formats.now before j s).symbols_taken (J.left symbols.old) (J.left symbols.new) result.0) }
+    ensures end { IsRunEnd result.0 }
     ensures layer { KeepsOrAttaches formats.now (Y.view image) (Y.kind image) (Y.view result.1) (Y.kind result.1) }
     ensures shows { IfSome (Y.view image) (λ before. IsAnswer result.0 → Shows (shown_of (map string_bytes words.now) formats.now before) (Y.view result.1) (Y.kind result.1)) }
     ensures calls { Y.calls image ≤ Y.calls result.1 }
     ensures image { HasCause (Y.faults image) (Y.faults result.1) (result.0 ≡ Status.ImageFault) }
+    ensures symbols { HasCause (J.faults symbols.old) (J.faults symbols.new) (result.0 ≡ Status.SymbolsFault) }
     ensures script { HasCause (S.faults script.old) (S.faults script.new) (result.0 ≡ Status.ScriptFault) }
     ensures out { HasCause (O.faults out.old) (O.faults out.new) (result.0 ≡ Status.OutFault) }
 {
     if !are_accepted(words) {
         return (status_after(Status::Usage, write_text(out, USAGE)), image);
     }
-    run_image(alloc, image, formats, script, out, steps)
+    run_image(alloc, image, formats, symbols, script, out, steps)
 }
 
-/// Runs a script over an image, and writes what its lines print.
+/// Runs a script over an image and a symbol file, and writes what its lines print.
 ///
 /// The words are those of the command line. Where they are accepted, the formats are tried on the image in their
-/// order, and the first that it is of is attached; an image of none of them is read as it is. The symbol file is not
-/// read, and nothing is dumped. The script is taken one byte at a time, and a line is run before the next is read; the
-/// bytes behind the newline of a `quit` are left to the caller. A refusal of the words, of the image, or of a script
-/// that is too long, is a line of the text.
+/// order, and the first that it is of is attached; an image of none of them is read as it is. The symbol file is taken
+/// to its end, or until one byte more was taken than it may have, and read as a table. Nothing is dumped. The script
+/// is taken one byte at a time, and a line is run before the next is read; the bytes behind the newline of a `quit` are
+/// left to the caller. A refusal of the words, of the image, of the symbol file, or of a script that is too long, is a
+/// line of the text.
 ///
 /// The clauses on content hold where the image, the symbol file and the script tell what they hold, and those on a
 /// sink where it tells what was written. When `Memory` comes is left open.
@@ -157,7 +247,7 @@ pub fn run<J: Source, S: Source, O: Sink, D: Sink, L: Ledger>(
 
     // Every line that was read, but for the last, has its whole text in what was written.
     ensures whole_lines { WhereTold (view image) (J.left symbols.old) (S.left script.old) (λ before j s.
-        HasWholeLines (physical (attached_view formats.now before)) (S.left script.old) (S.left script.new) (O.written out.old) (O.written out.new) result.status) }
+        HasWholeLines (evidence_of formats.now before j) (S.left script.old) (S.left script.new) (O.written out.old) (O.written out.new) result.status) }
 
     // A status that is no fault and no want of memory is the one that the run comes to, and all was written and taken.
     ensures exact_status { WhereTold (view image) (J.left symbols.old) (S.left script.old) (λ before j s.
@@ -191,6 +281,6 @@ pub fn run<J: Source, S: Source, O: Sink, D: Sink, L: Ledger>(
         (O.faults out.old) (O.faults out.new) (D.faults dump.old) (D.faults dump.new)
         → (result.status ≡ (run_of (map string_bytes words.now) formats.now before j s).status) ⊎ (result.status ≡ Status.Memory)) }
 {
-    let (status, layer) = run_over(alloc, words, image, formats, script, out, steps);
+    let (status, layer) = run_over(alloc, words, image, formats, symbols, script, out, steps);
     Ended { status, layer }
 }

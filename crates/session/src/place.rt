@@ -28,13 +28,10 @@ pub(crate) fn place_of(space: SpaceWord, at: &AddrWord) -> Option<Place>
     ensures { result ≡ place_of space at.now }
 {
     match at {
-        AddrWord::Number(at) => {
-            let at = *at;
-            Some(Place {
-                space: space_of(space)?,
-                at,
-            })
-        }
+        AddrWord::Number(at) => Some(Place {
+            space: space_of(space)?,
+            at: *at,
+        }),
         AddrWord::Symbol(_) => None,
     }
 }

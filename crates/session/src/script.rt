@@ -3,8 +3,8 @@ ghost use Rattle.std.specs.Prelude.{◌≡◌, option_to_list, IsErr, IsErrOf, I
 ghost use Rattle.std.specs.Io.KnownBytes.{Consumes, Keeps, IsAtEnd};
 ghost use Rattle.layer_base.specs.Counts.{HasCause};
 ghost use Rattle.layer_base.specs.Known.{Writes};
-ghost use Rattle.layer_base.specs.View.{physical};
 ghost use Rattle.space_memory.specs.State.{IsSameMemory};
+ghost use Rattle.session.specs.Evidence.{evidence_in};
 ghost use Rattle.session.specs.Ran.{IsScriptEnd, RanOver};
 ghost use Rattle.session.specs.Run.{script_run};
 ghost use Rattle.session.specs.Turn.{turn_text, turn_line, turn_flow, rest_text};
@@ -14,6 +14,7 @@ use crate::command::{Flow, run_line, write_text};
 use crate::line_buffer::LineBuffer;
 use crate::read::Page;
 use crate::status::{CommandFault, status_after};
+use crate::symbol_file::SymbolFile;
 use layer_base::{Failed, Layer, Sink, Source, Steps};
 use space_memory::Memory;
 use std::alloc::Global;
@@ -38,6 +39,7 @@ fn take_byte<S: Source>(script: &mut S) -> Result<Option<u8>, Failed>
 fn take_in<Y: Layer, O: Sink, L: Ledger>(
     alloc: Global,
     memory: &mut Memory<Y>,
+    file: &SymbolFile<'_>,
     page: &mut Page,
     line: &mut LineBuffer,
     byte: u8,
@@ -45,7 +47,7 @@ fn take_in<Y: Layer, O: Sink, L: Ledger>(
     steps: &mut Steps<L>,
 ) -> Result<Flow, CommandFault>
     ensures text { IfSome memory.old.view (λ view.
-        Writes (O.written out.old) (O.written out.new) result (turn_text (physical view) line.old byte)) }
+        Writes (O.written out.old) (O.written out.new) result (turn_text (evidence_in view file.now.table.now) line.old byte)) }
     ensures flow { IfOk result (λ flow. flow ≡ turn_flow line.old byte) }
     ensures line { OnOk result (line.new ≡ turn_line line.old byte) }
     ensures memory { IsSameMemory memory.old memory.new }
@@ -56,7 +58,7 @@ fn take_in<Y: Layer, O: Sink, L: Ledger>(
         line.add(byte);
         return Ok(Flow::NextLine);
     }
-    let flow = run_line(alloc, memory, page, line.bytes(), out, steps)?;
+    let flow = run_line(alloc, memory, file, page, line.bytes(), out, steps)?;
     line.clear();
     Ok(flow)
 }
@@ -65,19 +67,20 @@ fn take_in<Y: Layer, O: Sink, L: Ledger>(
 fn run_rest<Y: Layer, O: Sink, L: Ledger>(
     alloc: Global,
     memory: &mut Memory<Y>,
+    file: &SymbolFile<'_>,
     page: &mut Page,
     line: &LineBuffer,
     out: &mut O,
     steps: &mut Steps<L>,
 ) -> Result<(), CommandFault>
     ensures text { IfSome memory.old.view (λ view.
-        Writes (O.written out.old) (O.written out.new) result (rest_text (physical view) line.now)) }
+        Writes (O.written out.old) (O.written out.new) result (rest_text (evidence_in view file.now.table.now) line.now)) }
     ensures memory { IsSameMemory memory.old memory.new }
     ensures image { HasCause memory.old.faults memory.new.faults (IsErrOf result CommandFault.Image) }
     ensures out { HasCause (O.faults out.old) (O.faults out.new) (IsErrOf result CommandFault.Out) }
 {
     if let rest @ [_, ..] = line.bytes() {
-        run_line(alloc, memory, page, rest, out, steps)?;
+        run_line(alloc, memory, file, page, rest, out, steps)?;
     }
     Ok(())
 }
@@ -86,13 +89,14 @@ fn run_rest<Y: Layer, O: Sink, L: Ledger>(
 pub(crate) fn run_script<Y: Layer, S: Source, O: Sink, L: Ledger>(
     alloc: Global,
     memory: &mut Memory<Y>,
+    file: &SymbolFile<'_>,
     page: &mut Page,
     script: &mut S,
     out: &mut O,
     steps: &mut Steps<L>,
 ) -> Status
     ensures ran { IfSome memory.old.view (λ view. IfSome (S.left script.old) (λ bytes.
-        RanOver (physical view) (script_run (physical view) bytes) bytes (S.left script.new) (O.written out.old) (O.written out.new) result)) }
+        RanOver (evidence_in view file.now.table.now) (script_run (evidence_in view file.now.table.now) bytes) bytes (S.left script.new) (O.written out.old) (O.written out.new) result)) }
     ensures end { IsScriptEnd result }
     ensures memory { IsSameMemory memory.old memory.new }
     ensures image { HasCause memory.old.faults memory.new.faults (result ≡ Status.ImageFault) }
@@ -104,9 +108,14 @@ pub(crate) fn run_script<Y: Layer, S: Source, O: Sink, L: Ledger>(
         match take_byte(script) {
             Err(Failed) => return Status::ScriptFault,
             Ok(None) => {
-                return status_after(Status::Ok, run_rest(alloc, memory, page, &line, out, steps));
+                return status_after(
+                    Status::Ok,
+                    run_rest(alloc, memory, file, page, &line, out, steps),
+                );
             }
-            Ok(Some(byte)) => match take_in(alloc, memory, page, &mut line, byte, out, steps) {
+            Ok(Some(byte)) => match take_in(
+                alloc, memory, file, page, &mut line, byte, out, steps,
+            ) {
                 Ok(Flow::NextLine) => {}
                 Ok(Flow::Quit) => return Status::Ok,
                 Err(fault) => return fault.status(),
@@ -115,7 +124,10 @@ pub(crate) fn run_script<Y: Layer, S: Source, O: Sink, L: Ledger>(
     }
     match take_byte(script) {
         Err(Failed) => Status::ScriptFault,
-        Ok(None) => status_after(Status::Ok, run_rest(alloc, memory, page, &line, out, steps)),
+        Ok(None) => status_after(
+            Status::Ok,
+            run_rest(alloc, memory, file, page, &line, out, steps),
+        ),
         Ok(Some(_)) => status_after(Status::ScriptTooLong, write_text(out, b"script too long\n")),
     }
 }

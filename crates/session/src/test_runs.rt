@@ -41,7 +41,9 @@ pub(crate) struct Given<'a> {
     pub(crate) image: &'a [u8],
     pub(crate) script: &'a str,
     pub(crate) words: &'a [&'a str],
+    pub(crate) symbols: &'a [u8],
     pub(crate) image_fails: &'a [u64],
+    pub(crate) symbols_fails: &'a [u64],
     pub(crate) script_fails: &'a [u64],
     pub(crate) cut: usize,
     pub(crate) room: Option<u64>,
@@ -54,6 +56,7 @@ pub(crate) struct Seen {
     pub(crate) text: String,
     pub(crate) dumped: usize,
     pub(crate) left: usize,
+    pub(crate) symbols_left: usize,
 }
 
 // The script over the sixteen digits, with nothing that fails.
@@ -62,7 +65,9 @@ pub(crate) fn over_digits(script: &str) -> Given<'_> {
         image: DIGITS.as_bytes(),
         script,
         words: &["i", "s"],
+        symbols: b"{}",
         image_fails: &[],
+        symbols_fails: &[],
         script_fails: &[],
         cut: 1000,
         room: None,
@@ -79,15 +84,11 @@ fn strings_of(alloc: Global, words: &[&str]) -> Result<Vec<String>, AllocError> 
 
 fn source_of(
     alloc: Global,
-    text: &str,
+    bytes: &[u8],
     fails: &[u64],
     cut: usize,
 ) -> Result<MemSource, AllocError> {
-    Ok(MemSource::new(
-        text.as_bytes().to_vec(alloc)?,
-        fails.to_vec(alloc)?,
-        cut.max(1),
-    ))
+    Ok(MemSource::new(bytes.to_vec(alloc)?, fails.to_vec(alloc)?, cut.max(1)))
 }
 
 fn device_of(alloc: Global, given: &Given<'_>) -> Result<MemDevice, AllocError> {
@@ -120,8 +121,9 @@ fn run_with<L: Ledger>(alloc: Global, given: &Given<'_>, blank: Blank) -> Result
     let words = strings_of(alloc, given.words)?;
     let device = device_of(alloc, given)?;
     let image: Box<dyn Layer> = Box::new(alloc, FileLayer::new(alloc, device))?;
-    let mut symbols = source_of(alloc, "{}", &[], given.cut)?;
-    let mut script = source_of(alloc, given.script, given.script_fails, given.cut)?;
+    let mut symbols = source_of(alloc, given.symbols, given.symbols_fails, given.cut)?;
+    let script = given.script.as_bytes();
+    let mut script = source_of(alloc, script, given.script_fails, given.cut)?;
     let mut out = MemSink::new(alloc, given.room, given.cut.max(1));
     let mut dump = MemSink::new(alloc, None, given.cut.max(1));
     let mut steps = Steps::<L>::new(blank);
@@ -141,6 +143,7 @@ fn run_with<L: Ledger>(alloc: Global, given: &Given<'_>, blank: Blank) -> Result
         text: String::from_str(alloc, str::from_utf8(out.bytes())?)?,
         dumped: dump.bytes().len(),
         left: count_left(&mut script),
+        symbols_left: count_left(&mut symbols),
     })
 }
 

@@ -2,7 +2,7 @@ use Rattle.std.proofs.Common.{◌≡◌, [], ◌∷◌, refl, sym, ◌∙◌, ar
 use Rattle.std.specs.Prelude.{IfSome}
 use Rattle.std.proofs.lemmas.Option.{IfSome_then}
 use Rattle.layer_base.specs.Known.{AppendsPrefix, Writes}
-use Rattle.layer_base.specs.View.{physical}
+use Rattle.session.specs.Evidence.{evidence_in}
 use Rattle.std.specs.Io.KnownBytes.{Appends, Consumes, IsAtEnd}
 use Rattle.session.specs.Turn.{turn_text, rest_text}
 use Rattle.session.proofs.Ending.{script-failed, turn-failed, script-ended, script-quit, script-too_long}
@@ -15,34 +15,34 @@ pub returns-in-Err-clause-ran : goal.returns-in-Err-clause-ran
 returns-in-Err-clause-ran g c =
     IfSome_then c.args.memory.now.view c.loop.invariant.underway (λ view told.
     IfSome_then (g.S.Source.left c.args.script.now) told (λ bytes underway.
-    script-failed (physical view) bytes _ _ _ _ c.loop.line c.loop.counter underway (omega arith) c.in-Err.ensures.err))
+    script-failed (evidence_in view c.args.file.now.table.now) bytes _ _ _ _ c.loop.line c.loop.counter underway (omega arith) c.in-Err.ensures.err))
 
 pub returns-in-Ok-None-clause-ran : goal.returns-in-Ok-None-clause-ran
 returns-in-Ok-None-clause-ran g c =
     let none = c.in-Ok-None.field-0-is in
     let taken : Consumes (g.S.Source.left c.loop.script) (g.S.Source.left c.take_byte.new.script) [] = rw none at c.in-Ok-None.ensures.taken in
     let end : IsAtEnd (g.S.Source.left c.take_byte.new.script) = (rw none at c.in-Ok-None.ensures.end) refl in
-    let text : IfSome c.args.memory.now.view (λ view. Writes (g.O.Sink.written c.loop.out) (g.O.Sink.written c.run_rest.new.out) c.run_rest.result (rest_text (physical view) c.loop.line)) = rw c.loop.invariant.memory.same_view at c.run_rest.ensures.text in
+    let text : IfSome c.args.memory.now.view (λ view. Writes (g.O.Sink.written c.loop.out) (g.O.Sink.written c.run_rest.new.out) c.run_rest.result (rest_text (evidence_in view c.args.file.now.table.now) c.loop.line)) = rw c.loop.invariant.memory.same_view at c.run_rest.ensures.text in
     rw c.status_after.ensures (IfSome-both c.args.memory.now.view c.loop.invariant.underway text (λ view told writes.
     IfSome_then (g.S.Source.left c.args.script.now) told (λ bytes underway.
-    script-ended (physical view) bytes _ _ _ _ c.loop.line c.loop.counter underway (g.O.Sink.written c.run_rest.new.out) c.run_rest.result (omega arith) taken end writes)))
+    script-ended (evidence_in view c.args.file.now.table.now) bytes _ _ _ _ c.loop.line c.loop.counter underway (g.O.Sink.written c.run_rest.new.out) c.run_rest.result (omega arith) taken end writes)))
 
 pub returns-in-Err-take_in-clause-ran : goal.returns-in-Err-take_in-clause-ran
 returns-in-Err-take_in-clause-ran g c =
     let taken : Consumes (g.S.Source.left c.loop.script) (g.S.Source.left c.take_byte.new.script) (c.in-Ok-Some.byte ∷ []) = rw c.in-Ok-Some.field-0-is at c.in-Ok-Some.ensures.taken in
-    let text : IfSome c.args.memory.now.view (λ view. AppendsPrefix (g.O.Sink.written c.loop.out) (g.O.Sink.written c.take_in.new.out) (turn_text (physical view) c.loop.line c.in-Ok-Some.byte)) = rw c.loop.invariant.memory.same_view at c.in-Err-take_in.ensures.text in
+    let text : IfSome c.args.memory.now.view (λ view. AppendsPrefix (g.O.Sink.written c.loop.out) (g.O.Sink.written c.take_in.new.out) (turn_text (evidence_in view c.args.file.now.table.now) c.loop.line c.in-Ok-Some.byte)) = rw c.loop.invariant.memory.same_view at c.in-Err-take_in.ensures.text in
     rw c.status.ensures (IfSome-both c.args.memory.now.view c.loop.invariant.underway text (λ view told prefix.
     IfSome_then (g.S.Source.left c.args.script.now) told (λ bytes underway.
-    turn-failed (physical view) bytes _ _ _ _ c.loop.line c.loop.counter underway c.in-Ok-Some.byte c.in-Err-take_in.fault (g.O.Sink.written c.take_in.new.out) c.loop-test.true taken prefix)))
+    turn-failed (evidence_in view c.args.file.now.table.now) bytes _ _ _ _ c.loop.line c.loop.counter underway c.in-Ok-Some.byte c.in-Err-take_in.fault (g.O.Sink.written c.take_in.new.out) c.loop-test.true taken prefix)))
 
 pub loop-preserved : goal.loop-preserved
 loop-preserved g c =
     let taken : Consumes (g.S.Source.left c.loop.script) (g.S.Source.left c.take_byte.new.script) (c.in-Ok-Some.byte ∷ []) = rw c.in-Ok-Some.field-0-is at c.in-Ok-Some.ensures.taken in
-    let text : IfSome c.args.memory.now.view (λ view. Appends (g.O.Sink.written c.loop.out) (g.O.Sink.written c.take_in.new.out) (turn_text (physical view) c.loop.line c.in-Ok-Some.byte)) = rw c.loop.invariant.memory.same_view at c.in-Ok-NextLine.ensures.text in
+    let text : IfSome c.args.memory.now.view (λ view. Appends (g.O.Sink.written c.loop.out) (g.O.Sink.written c.take_in.new.out) (turn_text (evidence_in view c.args.file.now.table.now) c.loop.line c.in-Ok-Some.byte)) = rw c.loop.invariant.memory.same_view at c.in-Ok-NextLine.ensures.text in
     record {
       underway = IfSome-both c.args.memory.now.view c.loop.invariant.underway text (λ view told written.
           IfSome_then (g.S.Source.left c.args.script.now) told (λ bytes underway.
-          Underway-next (physical view) bytes _ _ _ _ _ c.loop.line c.take_in.new.line c.loop.counter c.in-Ok-Some.byte underway taken written c.in-Ok-NextLine.ensures.line (sym c.in-Ok-NextLine.field-0-is ∙ c.in-Ok-NextLine.ensures.flow)));
+          Underway-next (evidence_in view c.args.file.now.table.now) bytes _ _ _ _ _ c.loop.line c.take_in.new.line c.loop.counter c.in-Ok-Some.byte underway taken written c.in-Ok-NextLine.ensures.line (sym c.in-Ok-NextLine.field-0-is ∙ c.in-Ok-NextLine.ensures.flow)));
       memory = IsSameMemory-trans _ _ _ c.loop.invariant.memory c.take_in.ensures.memory;
       script = omega (arith, c.loop.invariant.script, c.take_byte.ensures.cause.kept);
       out = omega (arith, c.loop.invariant.out, c.take_in.ensures.out.kept);
@@ -52,7 +52,7 @@ pub returns-in-Err-take_byte-clause-ran : goal.returns-in-Err-take_byte-clause-r
 returns-in-Err-take_byte-clause-ran g c =
     IfSome_then c.args.memory.now.view c.loop.invariant.underway (λ view told.
     IfSome_then (g.S.Source.left c.args.script.now) told (λ bytes underway.
-    script-failed (physical view) bytes _ _ _ _ c.loop.line c.loop.counter underway (omega arith) c.in-Err-take_byte.ensures.err))
+    script-failed (evidence_in view c.args.file.now.table.now) bytes _ _ _ _ c.loop.line c.loop.counter underway (omega arith) c.in-Err-take_byte.ensures.err))
 
 pub returns-in-Ok-None-take_byte-clause-ran : goal.returns-in-Ok-None-take_byte-clause-ran
 returns-in-Ok-None-take_byte-clause-ran g c =
@@ -60,10 +60,10 @@ returns-in-Ok-None-take_byte-clause-ran g c =
     let taken : Consumes (g.S.Source.left c.loop.script) (g.S.Source.left c.take_byte-2.new.script) [] = rw none at c.in-Ok-None-take_byte.ensures.taken in
     let end : IsAtEnd (g.S.Source.left c.take_byte-2.new.script) = (rw none at c.in-Ok-None-take_byte.ensures.end) refl in
     let rest = c.run_rest-in-Ok-None-take_byte in
-    let text : IfSome c.args.memory.now.view (λ view. Writes (g.O.Sink.written c.loop.out) (g.O.Sink.written rest.new.out) rest.result (rest_text (physical view) c.loop.line)) = rw c.loop.invariant.memory.same_view at rest.ensures.text in
+    let text : IfSome c.args.memory.now.view (λ view. Writes (g.O.Sink.written c.loop.out) (g.O.Sink.written rest.new.out) rest.result (rest_text (evidence_in view c.args.file.now.table.now) c.loop.line)) = rw c.loop.invariant.memory.same_view at rest.ensures.text in
     rw c.status_after-in-Ok-None-take_byte.ensures (IfSome-both c.args.memory.now.view c.loop.invariant.underway text (λ view told writes.
     IfSome_then (g.S.Source.left c.args.script.now) told (λ bytes underway.
-    script-ended (physical view) bytes _ _ _ _ c.loop.line c.loop.counter underway (g.O.Sink.written rest.new.out) rest.result (omega arith) taken end writes)))
+    script-ended (evidence_in view c.args.file.now.table.now) bytes _ _ _ _ c.loop.line c.loop.counter underway (g.O.Sink.written rest.new.out) rest.result (omega arith) taken end writes)))
 
 pub returns-in-Ok-Some-take_byte-clause-ran : goal.returns-in-Ok-Some-take_byte-clause-ran
 returns-in-Ok-Some-take_byte-clause-ran g c =
@@ -72,12 +72,12 @@ returns-in-Ok-Some-take_byte-clause-ran g c =
     let most : c.loop.counter ≡ 16777216 = omega arith in
     rw c.status_after-in-Ok-Some-take_byte.ensures (IfSome_then c.args.memory.now.view c.loop.invariant.underway (λ view told.
     IfSome_then (g.S.Source.left c.args.script.now) told (λ bytes underway.
-    script-too_long (physical view) bytes _ _ _ _ c.loop.line c.loop.counter underway byte (g.O.Sink.written c.write_text.new.out) c.write_text.result most taken c.write_text.ensures.text)))
+    script-too_long (evidence_in view c.args.file.now.table.now) bytes _ _ _ _ c.loop.line c.loop.counter underway byte (g.O.Sink.written c.write_text.new.out) c.write_text.result most taken c.write_text.ensures.text)))
 
 pub returns-in-Ok-Quit-clause-ran : goal.returns-in-Ok-Quit-clause-ran
 returns-in-Ok-Quit-clause-ran g c =
     let taken : Consumes (g.S.Source.left c.loop.script) (g.S.Source.left c.take_byte.new.script) (c.in-Ok-Some.byte ∷ []) = rw c.in-Ok-Some.field-0-is at c.in-Ok-Some.ensures.taken in
-    let text : IfSome c.args.memory.now.view (λ view. Appends (g.O.Sink.written c.loop.out) (g.O.Sink.written c.take_in.new.out) (turn_text (physical view) c.loop.line c.in-Ok-Some.byte)) = rw c.loop.invariant.memory.same_view at c.in-Ok-Quit.ensures.text in
+    let text : IfSome c.args.memory.now.view (λ view. Appends (g.O.Sink.written c.loop.out) (g.O.Sink.written c.take_in.new.out) (turn_text (evidence_in view c.args.file.now.table.now) c.loop.line c.in-Ok-Some.byte)) = rw c.loop.invariant.memory.same_view at c.in-Ok-Quit.ensures.text in
     IfSome-both c.args.memory.now.view c.loop.invariant.underway text (λ view told written.
     IfSome_then (g.S.Source.left c.args.script.now) told (λ bytes underway.
-    script-quit (physical view) bytes _ _ _ _ c.loop.line c.loop.counter underway c.in-Ok-Some.byte (g.O.Sink.written c.take_in.new.out) c.loop-test.true taken written (sym c.in-Ok-Quit.field-0-is ∙ c.in-Ok-Quit.ensures.flow)))
+    script-quit (evidence_in view c.args.file.now.table.now) bytes _ _ _ _ c.loop.line c.loop.counter underway c.in-Ok-Some.byte (g.O.Sink.written c.take_in.new.out) c.loop-test.true taken written (sym c.in-Ok-Quit.field-0-is ∙ c.in-Ok-Quit.ensures.flow)))

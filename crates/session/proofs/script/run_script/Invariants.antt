@@ -1,6 +1,6 @@
 use Rattle.std.proofs.Common.{◌≤◌}
 use Rattle.std.specs.Prelude.{IfSome}
-use Rattle.layer_base.specs.View.{physical}
+use Rattle.session.specs.Evidence.{evidence_in}
 use Rattle.space_memory.specs.State.{IsSameMemory}
 use Rattle.session.proofs.Underway.{Underway}
 use Rattle.session.proofs.script.run_script.Given as goal
@@ -8,7 +8,7 @@ use Rattle.session.proofs.script.run_script.Given as goal
 abbrev pub invariant-loop : goal.invariant-loop
 invariant-loop g l = record {
   underway : IfSome l.fn.memory.view (λ view. IfSome (g.S.Source.left l.fn.script) (λ bytes.
-      Underway (physical view) bytes (g.S.Source.left l.script) (g.O.Sink.written l.fn.out) (g.O.Sink.written l.out) l.line l.counter));
+      Underway (evidence_in view l.file.table.now) bytes (g.S.Source.left l.script) (g.O.Sink.written l.fn.out) (g.O.Sink.written l.out) l.line l.counter));
   memory : IsSameMemory l.fn.memory l.memory;
   script : g.S.Source.faults l.fn.script ≤ g.S.Source.faults l.script;
   out : g.O.Sink.faults l.fn.out ≤ g.O.Sink.faults l.out;

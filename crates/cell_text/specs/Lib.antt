@@ -1,0 +1,2 @@
+pub mod TextCell
+pub mod TypeCell

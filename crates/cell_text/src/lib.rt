@@ -1,0 +1,11 @@
+//! The texts of cells.
+#![tactic(auto)]
+
+mod text;
+mod types;
+
+pub use text::{append_text, text_cell};
+pub use types::{append_type, type_cell};
+
+#[cfg(test)]
+mod tests;

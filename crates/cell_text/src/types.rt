@@ -1,0 +1,73 @@
+//! The texts of types.
+ghost use Rattle.std.specs.Prelude.{◌≡◌, ◌++◌, decimal, OnOk, IfOk};
+ghost use Rattle.cell_text.specs.TextCell.{text_cell};
+ghost use Rattle.cell_text.specs.TypeCell.{type_cell};
+
+use crate::text::append_text;
+use isf_reader::TypeRef;
+use itoa::Buffer;
+use layer_base::Name;
+use std::alloc::{AllocError, Global};
+
+// Appends a mark and a number in decimal.
+fn append_number(text: &mut Vec<u8>, mark: &[u8], number: u64) -> Result<(), AllocError>
+    ensures { OnOk result (text.new.items ≡ text.old.items ++ mark.now ++ decimal number) }
+{
+    text.extend_from_slice(mark)?;
+    text.extend_from_slice(Buffer::new().format(number).as_bytes())?;
+    Ok(())
+}
+
+// Appends a word and a name.
+fn append_named(text: &mut Vec<u8>, word: &[u8], name: &Name) -> Result<(), AllocError>
+    ensures { OnOk result (text.new.items ≡ text.old.items ++ word.now ++ text_cell name.now) }
+{
+    text.extend_from_slice(word)?;
+    append_text(text, name.items())
+}
+
+/// Appends a type: a base type its name; a pointer the type that it points to and `*`; an array the type of its
+/// elements and `[N]`; `struct`, `union`, `class` or `enum` and the name; a bit field its type, `:POSITION` and
+/// `:LENGTH`; `function`. Names are written as `append_text` does.
+#[tactic(auto, unfolding(crate::specs::TypeCell::type_cell))]
+pub fn append_type(text: &mut Vec<u8>, of: &TypeRef) -> Result<(), AllocError>
+    ensures { OnOk result (text.new.items ≡ text.old.items ++ type_cell of.now) }
+{
+    match of {
+        TypeRef::Base(name) => append_text(text, name.items()),
+        TypeRef::Struct(name) => append_named(text, b"struct ", name),
+        TypeRef::Union(name) => append_named(text, b"union ", name),
+        TypeRef::Class(name) => append_named(text, b"class ", name),
+        TypeRef::Enum(name) => append_named(text, b"enum ", name),
+        TypeRef::Pointer(of) => {
+            append_type(text, of.get())?;
+            text.push(b'*')?;
+            Ok(())
+        },
+        TypeRef::Array { count, of } => {
+            append_type(text, of.get())?;
+            append_number(text, b"[", *count)?;
+            text.push(b']')?;
+            Ok(())
+        },
+        TypeRef::Bits {
+            position,
+            length,
+            of,
+        } => {
+            append_type(text, of.get())?;
+            append_number(text, b":", u64::from(*position))?;
+            append_number(text, b":", u64::from(*length))
+        },
+        TypeRef::Function => Ok(text.extend_from_slice(b"function")?),
+    }
+}
+
+/// The text of a type, as `append_type` appends it.
+pub fn type_cell(alloc: Global, of: &TypeRef) -> Result<Name, AllocError>
+    ensures { IfOk result (λ cell. cell ≡ type_cell of.now) }
+{
+    let mut text = Vec::new(alloc);
+    append_type(&mut text, of)?;
+    Ok(Name::from(text))
+}

@@ -1,0 +1,44 @@
+-- A run over the bytes that were taken of a symbol file is the one over the file.
+use Rattle.std.proofs.Common.{◌≡◌, ℕ, ◌<◌, ◌≤◌, true, ltb, List, length, Err, refl, sym, ◌∙◌, ap, ⊎_elim, arith, length-take}
+use Rattle.std.proofs.lemmas.Bool.{cases_lt}
+use Rattle.std.proofs.lemmas.Bool.Decides.{nat_tests}
+use Rattle.std.proofs.lemmas.List.{take_all}
+use Rattle.layer_base.specs.AddressSpace.{AddressSpace}
+use Rattle.isf_reader.specs.Table.{table_of}
+use Rattle.isf_reader.specs.declared.refusal.IsfRefusal.TheVariants.{TooLarge}
+use Rattle.session.specs.Evidence.{table_in}
+use Rattle.session.specs.Run.{symbols_refused, table_run}
+use Rattle.session.specs.SymbolFile.{symbols_taken, symbols_refusal_text}
+
+-- a file that is too large is refused for that, whatever stands in it
+too-large : (symbols : List ℕ) → 134217728 < length symbols → table_of symbols ≡ Err (TooLarge (length symbols))
+unfolding table_of
+too-large symbols large = let larger : ltb 134217728 (length symbols) ≡ true = grind (arith, nat_tests) in rw larger refl
+
+-- and its line does not tell how large it is
+pub too-large-text : (a b : ℕ) → symbols_refused (TooLarge a) ≡ symbols_refused (TooLarge b)
+unfolding symbols_refusal_text
+too-large-text a b = refl
+
+taken-short : (symbols : List ℕ) → length symbols ≤ 134217729 → symbols_taken symbols ≡ symbols
+unfolding symbols_taken
+taken-short symbols short = take_all 134217729 symbols short
+
+length-taken : (symbols : List ℕ) → 134217729 ≤ length symbols → length (symbols_taken symbols) ≡ 134217729
+unfolding symbols_taken
+length-taken symbols long = omega (arith, length-take 134217729 symbols)
+
+pub table_run-taken : (memory : AddressSpace) (symbols script : List ℕ) → table_run memory (table_of (symbols_taken symbols)) script ≡ table_run memory (table_of symbols) script
+table_run-taken memory symbols script = ⊎_elim
+    (λ long.
+    let taken = length-taken symbols (omega (arith, long)) in
+    ap (λ t. table_run memory t script) (too-large (symbols_taken symbols) (omega (arith, taken))) ∙ too-large-text (length (symbols_taken symbols)) (length symbols)
+    ∙ ap (λ t. table_run memory t script) (sym (too-large symbols (omega (arith, long)))))
+    (λ short. ap (λ l. table_run memory (table_of l) script) (taken-short symbols short)) (cases_lt 134217729 (length symbols))
+
+pub table_in-taken : (symbols : List ℕ) → table_in (table_of (symbols_taken symbols)) ≡ table_in (table_of symbols)
+table_in-taken symbols = ⊎_elim
+    (λ long.
+    let taken = length-taken symbols (omega (arith, long)) in
+    ap table_in (too-large (symbols_taken symbols) (omega (arith, taken))) ∙ ap table_in (sym (too-large symbols (omega (arith, long)))))
+    (λ short. ap (λ l. table_in (table_of l)) (taken-short symbols short)) (cases_lt 134217729 (length symbols))
