@@ -1,22 +1,13 @@
 //! The texts of types.
-ghost use Rattle.std.specs.Prelude.{◌≡◌, ◌++◌, decimal, OnOk, IfOk};
+ghost use Rattle.std.specs.Prelude.{◌≡◌, ◌++◌, OnOk, IfOk};
 ghost use Rattle.cell_text.specs.TextCell.{text_cell};
 ghost use Rattle.cell_text.specs.TypeCell.{type_cell};
 
+use crate::number::append_number;
 use crate::text::append_text;
 use isf_reader::TypeRef;
-use itoa::Buffer;
 use layer_base::Name;
 use std::alloc::{AllocError, Global};
-
-// Appends a mark and a number in decimal.
-fn append_number(text: &mut Vec<u8>, mark: &[u8], number: u64) -> Result<(), AllocError>
-    ensures { OnOk result (text.new.items ≡ text.old.items ++ mark.now ++ decimal number) }
-{
-    text.extend_from_slice(mark)?;
-    text.extend_from_slice(Buffer::new().format(number).as_bytes())?;
-    Ok(())
-}
 
 // Appends a word and a name.
 fn append_named(text: &mut Vec<u8>, word: &[u8], name: &Name) -> Result<(), AllocError>
@@ -46,7 +37,8 @@ pub fn append_type(text: &mut Vec<u8>, of: &TypeRef) -> Result<(), AllocError>
         },
         TypeRef::Array { count, of } => {
             append_type(text, of.get())?;
-            append_number(text, b"[", *count)?;
+            text.push(b'[')?;
+            append_number(text, *count)?;
             text.push(b']')?;
             Ok(())
         },
@@ -56,8 +48,10 @@ pub fn append_type(text: &mut Vec<u8>, of: &TypeRef) -> Result<(), AllocError>
             of,
         } => {
             append_type(text, of.get())?;
-            append_number(text, b":", u64::from(*position))?;
-            append_number(text, b":", u64::from(*length))
+            text.push(b':')?;
+            append_number(text, *position)?;
+            text.push(b':')?;
+            append_number(text, *length)
         },
         TypeRef::Function => Ok(text.extend_from_slice(b"function")?),
     }

@@ -6,32 +6,22 @@ ghost use Rattle.std.specs.Cmp.Lexicographic.{slice_cmp};
 ghost use Rattle.std.specs.List.{list_any};
 ghost use Rattle.std.specs.Option.{option_copied};
 ghost use Rattle.std.specs.Ordering.{nat_cmp};
-ghost use Rattle.isf_reader.specs.Depth.{entry_named, brought_in, brings, user_name, deeper, marks_by, nests, first_marked, first_too_deep};
+ghost use Rattle.isf_reader.specs.Depth.{entry_named, brought_in, brings, deeper, marks_by, nests, first_marked, first_too_deep};
 ghost use Rattle.isf_reader.specs.Sections.{named};
 
-use crate::{Field, TypeRef, UserType};
+use crate::{Field, UserType};
 use layer_base::Name;
 use std::alloc::{AllocError, Global};
 use std::collections::BTreeMap;
 
 const ROUNDS: usize = 33;
 
-// The user type that a descriptor names.
-fn user_name(of: &TypeRef) -> Option<&Name>
-    ensures { option_copied result ≡ user_name of.now }
-{
-    match of {
-        TypeRef::Struct(name) | TypeRef::Union(name) | TypeRef::Class(name) => Some(name),
-        _ => None,
-    }
-}
-
 // The name of the user type whose fields an anonymous field brings in.
 fn brought_in(field: &Field) -> Option<&Name>
     ensures { option_copied result ≡ brought_in field.now }
 {
     if field.anonymous {
-        user_name(&field.of)
+        field.of.user_name()
     } else {
         None
     }
@@ -87,7 +77,7 @@ fn round<'t>(
     Ok(found)
 }
 
-// Marks the types that nest deeper than 32 levels.
+// Marks the types that nest deeper than 32 levels. Where none nests so deep as a round asks, none nests deeper.
 fn rounds<'t>(
     alloc: Global,
     users: &'t BTreeMap<Vec<u8>, UserType>,
@@ -97,6 +87,9 @@ fn rounds<'t>(
 {
     let mut marks = round(alloc, users, None)?;
     for _level in 0..ROUNDS {
+        if first_marked(&marks).is_none() {
+            return Ok(marks);
+        }
         marks = round(alloc, users, Some(&marks))?;
     }
     Ok(marks)

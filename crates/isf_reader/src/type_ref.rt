@@ -1,4 +1,7 @@
 //! Descriptors of types.
+ghost use Rattle.std.specs.Prelude.{◌≡◌};
+ghost use Rattle.std.specs.Option.{option_copied};
+ghost use Rattle.isf_reader.specs.Depth.{user_name};
 
 use layer_base::Name;
 use sqlite_items::Boxed;
@@ -22,4 +25,16 @@ pub enum TypeRef {
         of: Boxed<TypeRef>,
     },
     Function,
+}
+
+impl TypeRef {
+    /// The name in a struct, union or class descriptor. None in any other.
+    pub fn user_name(&self) -> Option<&Name>
+        ensures { option_copied result ≡ user_name self.now }
+    {
+        match self {
+            TypeRef::Struct(name) | TypeRef::Union(name) | TypeRef::Class(name) => Some(name),
+            _ => None,
+        }
+    }
 }

@@ -1,29 +1,12 @@
 //! The command that prints how a type is laid out.
-ghost use Rattle.std.specs.Prelude.{◌≡◌, ◌++◌, decimal, OnOk, IfOk};
-ghost use Rattle.std.specs.Fmt.{signed_decimal};
+ghost use Rattle.std.specs.Prelude.{◌≡◌, ◌++◌, OnOk, IfOk};
 ghost use Rattle.std.specs.List.{flat_map};
 ghost use Rattle.session.specs.Lookup.{field_row, user_word, user_text, constant_row, enum_text, base_word, sign_word, order_word, base_text, layout_text};
 
-use cell_text::{append_text, append_type};
+use cell_text::{append_number, append_text, append_type};
 use isf_reader::{BaseKind, BaseType, Constant, EnumType, Field, Table, UserKind, UserType};
-use itoa::Buffer;
 use layer_base::Name;
 use std::alloc::{AllocError, Global};
-
-/// Appends a number in decimal.
-pub(crate) fn append_number(text: &mut Vec<u8>, number: u64) -> Result<(), AllocError>
-    ensures { OnOk result (text.new.items ≡ text.old.items ++ decimal number) }
-{
-    text.extend_from_slice(Buffer::new().format(number).as_bytes())?;
-    Ok(())
-}
-
-fn append_integer(text: &mut Vec<u8>, number: i128) -> Result<(), AllocError>
-    ensures { OnOk result (text.new.items ≡ text.old.items ++ signed_decimal number) }
-{
-    text.extend_from_slice(Buffer::new().format(number).as_bytes())?;
-    Ok(())
-}
 
 #[tactic(auto, unfolding(crate::specs::Lookup::field_row))]
 fn append_field(text: &mut Vec<u8>, field: &Field) -> Result<(), AllocError>
@@ -75,7 +58,7 @@ fn user_text(alloc: Global, name: &[u8], user: &UserType) -> Result<Vec<u8>, All
 fn append_constant(text: &mut Vec<u8>, constant: &Constant) -> Result<(), AllocError>
     ensures { OnOk result (text.new.items ≡ text.old.items ++ constant_row constant.now) }
 {
-    append_integer(text, constant.value)?;
+    append_number(text, constant.value)?;
     text.push(b'\t')?;
     append_text(text, constant.name.items())?;
     text.push(b'\n')?;

@@ -4,8 +4,7 @@ ghost use Rattle.std.specs.Option.{option_copied};
 ghost use Rattle.symbol_index.specs.Index.{held, by_name, at_or_before};
 ghost use Rattle.session.specs.Lookup.{type_or_none, symbol_row, no_symbol_text, symbol_or_none, near_row, near_or_none};
 
-use crate::layout::append_number;
-use cell_text::{append_text, append_type};
+use cell_text::{append_number, append_text, append_type};
 use hex_text::append_address;
 use isf_reader::TypeRef;
 use layer_base::Name;

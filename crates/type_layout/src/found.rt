@@ -3,23 +3,12 @@
 ghost use Rattle.std.specs.Prelude.{◌≡◌, ◌+◌, ◌*◌, ◌^◌, ◌<◌, ◌≤◌, option_map, IfSome};
 ghost use Rattle.std.specs.List.{AllByRecursion};
 ghost use Rattle.std.specs.Option.{option_copied};
-ghost use Rattle.isf_reader.specs.Depth.{entry_named, user_name};
+ghost use Rattle.isf_reader.specs.Depth.{entry_named};
 ghost use Rattle.isf_reader.specs.Table.{IsNear};
 ghost use Rattle.type_layout.specs.Member.{spot, user_brought, own_field, found_through, first_through, found_in};
 
 use crate::Place;
-use isf_reader::{Field, Table, TypeRef, UserType};
-use layer_base::Name;
-
-// The user type that a descriptor names.
-pub(crate) fn user_name(of: &TypeRef) -> Option<&Name>
-    ensures { option_copied result ≡ user_name of.now }
-{
-    match of {
-        TypeRef::Struct(name) | TypeRef::Union(name) | TypeRef::Class(name) => Some(name),
-        _ => None,
-    }
-}
+use isf_reader::{Field, Table, UserType};
 
 // The user type of a name, whose fields are near its start.
 pub(crate) fn user_of<'t>(table: &'t Table, name: &[u8]) -> Option<&'t UserType>
@@ -35,7 +24,7 @@ fn user_brought<'t>(table: &'t Table, field: &Field) -> Option<&'t UserType>
     ensures near { IfSome result (λ user. AllByRecursion IsNear user.now.fields) }
 {
     if field.anonymous {
-        user_of(table, user_name(&field.of)?.items())
+        user_of(table, field.of.user_name()?.items())
     } else {
         None
     }

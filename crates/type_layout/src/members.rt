@@ -4,7 +4,7 @@ ghost use Rattle.std.specs.Result.{result_map_both};
 ghost use Rattle.isf_reader.specs.Table.{IsTable};
 ghost use Rattle.type_layout.specs.Member.{spot, member, IsSearchedAlike};
 
-use crate::found::{found_in, user_name, user_of};
+use crate::found::{found_in, user_of};
 use crate::{Place, TypeFault};
 use isf_reader::{Table, TypeRef};
 
@@ -20,7 +20,7 @@ pub fn member<'t>(table: &'t Table, of: &TypeRef, name: &[u8]) -> Result<Place<'
     ensures rule { IsTable table.now → IsSearchedAlike table.now.users name.now }
     ensures near { IfOk result (λ place. place.offset < 33 * 2 ^ 32) }
 {
-    let user = user_name(of).ok_or(TypeFault::NotCompound)?;
+    let user = of.user_name().ok_or(TypeFault::NotCompound)?;
     let user = user_of(table, user.items()).ok_or(TypeFault::NoType)?;
     found_in(table, user, name, DEEPEST).ok_or(TypeFault::NoMember)
 }
