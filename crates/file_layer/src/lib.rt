@@ -1,4 +1,4 @@
-//! The layer of a raw image: the bytes of one device are the physical memory.
+//! The layer over one device: a raw image, whose bytes are the physical memory, or a LiME image, whose ranges are.
 #![tactic(auto)]
 
 mod file;

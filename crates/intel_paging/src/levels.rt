@@ -15,7 +15,7 @@ pub(crate) fn count_of(levels: Levels) -> u32
     }
 }
 
-/// Half as many addresses as the tables map.
+// Half as many addresses as the tables map.
 fn half_size(levels: Levels) -> u64
     ensures { result ≡ half_size levels }
 {

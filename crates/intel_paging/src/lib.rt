@@ -9,6 +9,3 @@ mod tables;
 mod word;
 
 pub use tables::walk;
-
-#[cfg(test)]
-mod tests;

@@ -57,7 +57,7 @@ pub fn walk<Y: Layer, L: Ledger>(
     descend(phys, count_of(levels), page_address(root), at, steps)
 }
 
-/// The block around an address that a table of a level maps, or that a table below it does.
+// The block around an address that a table of a level maps, or that a table below it does.
 fn descend<Y: Layer, L: Ledger>(
     phys: &mut Y,
     level: u32,
@@ -84,7 +84,7 @@ fn descend<Y: Layer, L: Ledger>(
     }
 }
 
-/// Reads the entry of an address in a table of a level, which is one step.
+// Reads the entry of an address in a table of a level, which is one step.
 fn entry_at<Y: Layer, L: Ledger>(
     phys: &mut Y,
     level: u32,

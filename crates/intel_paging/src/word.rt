@@ -26,8 +26,8 @@ pub(crate) fn word_at<Y: Layer>(phys: &mut Y, at: u64) -> Result<Option<u64>, De
     Ok(Some(LittleEndian::read_u64(&bytes)))
 }
 
-/// Puts the bytes that are present in a row from an address on into the front of the buffer, and answers how many
-/// there are.
+// Puts the bytes that are present in a row from an address on into the front of the buffer, and answers how many
+// there are.
 fn fill<Y: Layer>(phys: &mut Y, at: u64, buf: &mut [u8]) -> Result<usize, DeviceFailed>
     requires { at + length buf.old ≤ 2 ^ 64 }
     ensures within { IfOk result (λ count. count ≤ length buf.old) }
@@ -47,7 +47,7 @@ fn fill<Y: Layer>(phys: &mut Y, at: u64, buf: &mut [u8]) -> Result<usize, Device
     Ok(done)
 }
 
-/// The bytes from an address on that one call of the layer gives, and how many: none where the first is absent.
+// The bytes from an address on that one call of the layer gives, and how many: none where the first is absent.
 fn present_at<Y: Layer>(phys: &mut Y, at: u64, buf: &mut [u8]) -> Result<usize, DeviceFailed>
     requires { 0 < length buf.old }
     ensures within { IfOk result (λ count. count ≤ length buf.old) }

@@ -4,7 +4,7 @@ use Rattle.layer_base.specs.declared.segment.Segment.{Segment}
 use Rattle.layer_base.specs.declared.why.Why.{Why}
 use Rattle.layer_base.specs.declared.why.Why.TheVariants.{NotThis, Taken, Bad, Device, Memory}
 
--- A refusal is that of the reading. A fault and want of memory say nothing of it.
+-- A refusal is that of the reading. A failed device, or being out of memory, says nothing of it.
 abbrev pub RefusesAs : Why → Result (List Segment) Why → Type 0
 RefusesAs NotThis reading = reading ≡ Err NotThis
 RefusesAs Taken reading = reading ≡ Err Taken

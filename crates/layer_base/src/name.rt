@@ -32,7 +32,7 @@ impl Name {
         }
     }
 
-    /// Puts a byte at the end. After want of memory the name is as it was.
+    /// Puts a byte at the end. When out of memory, the name is left as it was.
     pub fn add(&mut self, byte: u8) -> Result<(), AllocError>
         ensures ok { OnOk result (self.new ≡ self.old ++ byte ∷ []) }
         ensures err { OnErr result (self.new ≡ self.old) }

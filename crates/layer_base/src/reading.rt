@@ -19,15 +19,18 @@ pub enum Reading {
     Ranges(Segments),
 }
 
-/// The addresses from one to `last`: their bytes stand in a row from `place` on, or they have none.
+// The addresses from one to `last`: their bytes stand in a row from `place` on, or they have none.
 #[derive(Clone, Copy)]
 struct Stretch {
     place: Option<u64>,
     last: u64,
 }
 
-/// Says what is at the addresses from `at` on, in at most one call of the device. A hole reaches to the address
-/// before a segment begins or the one that shows `at` ends, and else to the last address of all.
+/// Says what is at the addresses from `at` on, in at most one call of the device.
+///
+/// A hole of a raw device reaches to the last address of all. A hole of ranges reaches to the last address before the
+/// next range begins, or to the last address of all where none does. Where a range shows `at`, the hole ends no later
+/// than that range.
 pub fn run_of_reading<D: Device>(
     device: &mut D,
     reading: &Reading,

@@ -41,7 +41,7 @@ impl Segments {
         }
     }
 
-    /// Puts a segment at the end. After want of memory the list is as it was.
+    /// Puts a segment at the end. When out of memory, the list is left as it was.
     pub fn add(&mut self, segment: Segment) -> Result<(), AllocError>
         requires place { segment.place ≤ 2 ^ 64 }
         requires some { 1 ≤ segment.length }

@@ -9,7 +9,7 @@ ghost use Rattle.layer_base.specs.Known.{Writes};
 pub enum SinkFault {
     /// The call failed.
     Failed,
-    /// The sink's own want of memory.
+    /// The sink is out of memory.
     Memory,
 }
 

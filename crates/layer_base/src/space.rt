@@ -28,7 +28,7 @@ pub struct Mapped {
     pub to: Option<u64>,
 }
 
-/// Physical addresses of tables and pages are below this.
+// Physical addresses of tables and pages are below this.
 const FRAME_END: u64 = 1 << 52;
 
 const PAGE_SIZE: u64 = 1 << 12;

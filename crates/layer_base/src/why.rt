@@ -31,7 +31,7 @@ pub enum Why {
     Bad { at: u64, rule: Rule },
     /// A call on the device failed.
     Device,
-    /// Want of memory.
+    /// Out of memory.
     Memory,
 }
 

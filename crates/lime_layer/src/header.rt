@@ -10,10 +10,10 @@ use layer_base::{Rule, Segment, Why};
 /// How long a header is.
 pub(crate) const LENGTH: usize = 32;
 
-/// The magic, in the file `45 4d 69 4c`.
+// The magic, in the file `45 4d 69 4c`.
 const MAGIC: u32 = 0x4C69_4D45;
 
-/// The version of the format.
+// The version of the format.
 const VERSION: u32 = 1;
 
 /// What is present of a header: its first bytes, one at least.

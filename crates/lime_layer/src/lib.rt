@@ -7,6 +7,3 @@ mod ranges;
 mod read;
 
 pub use ranges::lime_of;
-
-#[cfg(test)]
-mod tests;

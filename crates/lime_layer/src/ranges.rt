@@ -12,7 +12,7 @@ use crate::read::header_at;
 use layer_base::{Device, Rule, Segments, Why};
 use std::alloc::Global;
 
-/// How many ranges an image may have.
+// How many ranges an image may have.
 const MOST_RANGES: usize = 65_536;
 
 /// The ranges of a LiME image, read from the device. A range whose bytes pass the end of the device is accepted.

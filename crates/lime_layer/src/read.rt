@@ -33,8 +33,8 @@ pub(crate) fn header_at<D: Device>(device: &mut D, place: u128) -> Result<Option
     }))
 }
 
-/// Puts the bytes from a place on into the front of the buffer, in as many calls as the device wants, and answers how
-/// many there are: fewer than there is room for only where the bytes end, or the places do.
+// Puts the bytes from a place on into the front of the buffer, in as many calls as the device wants, and answers how
+// many there are: fewer than there is room for only where the bytes end, or the places do.
 fn fill<D: Device>(device: &mut D, place: u64, buf: &mut [u8]) -> Result<usize, Failed>
     ensures within { IfOk result (λ n. n ≤ length buf.old) }
     ensures places { IfOk result (λ n. place + n ≤ 2 ^ 64) }

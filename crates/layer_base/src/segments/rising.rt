@@ -16,7 +16,7 @@ pub(super) fn is_above(segments: &[Segment], segment: &Segment) -> bool
     }
 }
 
-/// How many of the segments begin at or below the address. They are the first ones.
+// How many of the segments begin at or below the address. They are the first ones.
 fn count_begun(segments: &[Segment], at: u64) -> usize
     requires { AreRising segments.now }
     ensures bound { result ≤ length segments.now }
