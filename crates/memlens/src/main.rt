@@ -29,8 +29,8 @@ use std::process::ExitCode;
 use std::rt::Runtime;
 use std::sync::ledger::{Blank, Ledger};
 
-/// The words of the command line, but for the program's own name. Where one is not text there are none, which is a
-/// refused command line too.
+// The words of the command line without the program's own name. If one is not UTF-8, none are answered, which the run
+// refuses too.
 fn read_words<R: Runtime<A = Global>>(rt: &R) -> Result<Vec<String>, AllocError> {
     let mut words = Vec::new(rt.alloc());
     let args = match env::args(rt) {
@@ -44,7 +44,7 @@ fn read_words<R: Runtime<A = Global>>(rt: &R) -> Result<Vec<String>, AllocError>
     Ok(words)
 }
 
-/// Lends the files and streams of the system to a run. They are opened at their first use.
+// Lends the files and streams of the system to a run. Each file is opened at its first use.
 fn run_files<L: Ledger>(rt: &HostRuntime, blank: Blank) -> Result<Status, AllocError>
     requires name { blank.name ≡ L.name }
     requires parts { blank.parts ≡ L.parts }

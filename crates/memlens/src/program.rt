@@ -1,4 +1,4 @@
-//! What the program settles itself: the paths, the formats, and the code that it ends with.
+//! What the program decides itself: the paths, the formats, and the code that it ends with.
 ghost use Rattle.std.specs.Prelude.{◌≡◌, ◌≢◌, [], ◌∷◌, length, map, string_bytes};
 ghost use Rattle.std.specs.Io.KnownBytes.{Appends};
 ghost use Rattle.std.specs.Process.{exit_status};
@@ -14,14 +14,15 @@ use std::alloc::Global;
 use std::process::ExitCode;
 use std::sync::ledger::Ledger;
 
-/// The files that are read.
+/// The paths of the files that are read.
 #[derive(Clone, Copy)]
 pub struct Paths<'w> {
     pub image: &'w str,
     pub symbols: &'w str,
 }
 
-/// The paths that two words give, the image's first. Other words are refused by the run, and give empty paths.
+/// Two words are the paths of the image and of the symbol file. Any other number of words gives empty paths, and the
+/// run refuses those words.
 pub fn paths_of(words: &[String]) -> Paths<'_>
     ensures two { length words.now ≡ 2 → map string_bytes words.now ≡ result.image.now ∷ result.symbols.now ∷ [] }
     ensures image { length words.now ≢ 2 → result.image.now ≡ [] }
@@ -36,7 +37,7 @@ pub fn paths_of(words: &[String]) -> Paths<'_>
     }
 }
 
-/// Runs the script over an image on which the formats of the program are tried.
+/// Runs the script over an image that may be in one of the program's formats.
 pub fn run_with_formats<J: Source, S: Source, O: Sink, D: Sink, L: Ledger>(
     alloc: Global,
     words: &[String],
@@ -49,11 +50,11 @@ pub fn run_with_formats<J: Source, S: Source, O: Sink, D: Sink, L: Ledger>(
 ) -> Status
     requires file { kind image ≡ Kind.File }
 
-    // What is written is always a front of the text that the run comes to with these formats.
+    // However it ends, what was written is a prefix of the text that a run with these formats comes to.
     ensures text { WhereTold (view image) (J.left symbols.old) (S.left script.old) (λ before j s.
         AppendsPrefix (O.written out.old) (O.written out.new) (run_of (map string_bytes words.now) formats before j s).text) }
 
-    // A status that is no fault is the one that the run comes to with them, and then the whole text is written.
+    // A status other than a fault or out of memory is the one of that run, and its whole text was written.
     ensures exact_status { WhereTold (view image) (J.left symbols.old) (S.left script.old) (λ before j s.
         IsAnswer result → result ≡ (run_of (map string_bytes words.now) formats before j s).status) }
     ensures exact_text { WhereTold (view image) (J.left symbols.old) (S.left script.old) (λ before j s.
@@ -73,7 +74,7 @@ pub fn run_with_formats<J: Source, S: Source, O: Sink, D: Sink, L: Ledger>(
     .status
 }
 
-/// The code that the program ends with.
+/// The code that the program ends with for a status.
 pub fn exit_code(status: Status) -> ExitCode
     ensures { exit_status result ≡ number_of_status status }
 {
