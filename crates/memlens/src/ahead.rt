@@ -1,4 +1,4 @@
-//! Bytes that were read ahead, so that a read of one byte does not cost a call of the system.
+//! Bytes that were read ahead, so that a read of one byte does not cost a system call.
 ghost use Rattle.std.specs.Prelude.{◌≡◌, ◌+◌, ◌-◌, ◌<◌, ◌≤◌, length, take, drop, min, Ok, IfOk};
 
 use crate::calls::read_next;
@@ -6,7 +6,7 @@ use std::io::{self, Read};
 
 const ROOM: usize = 8192;
 
-/// What was read and not yet taken is `bytes[start..end]`.
+/// `bytes[start..end]` was read and not yet taken.
 #[derive(Drop)]
 pub struct Ahead {
     bytes: [u8; ROOM],
@@ -25,8 +25,8 @@ impl Ahead {
         }
     }
 
-    /// Gives the buffer what was read ahead, or, where nothing is left of it, makes one call. A buffer that is larger
-    /// than the room here is filled by that call itself.
+    /// Gives the next of the bytes that were read ahead. If none are left, it makes one system call, which reads
+    /// straight into a buffer of `ROOM` bytes or more.
     pub fn read<F: Read>(&mut self, file: &mut F, buf: &mut [u8]) -> io::Result<usize>
         ensures within { IfOk result (λ n. n ≤ length buf.old) }
         ensures ahead { self.old.start < self.old.end → result ≡ Ok (min (length buf.old) (self.old.end - self.old.start)) }

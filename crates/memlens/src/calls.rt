@@ -1,4 +1,4 @@
-//! Single calls of the system. One that a signal cut short is made again.
+//! Single system calls. A call that a signal interrupted is made again.
 ghost use Rattle.std.specs.Prelude.{◌≡◌, ◌<◌, ◌≤◌, length, IfOk, IsErr};
 ghost use Rattle.std.specs.Io.{ReadsAtMost};
 ghost use Rattle.layer_base.specs.Counts.{HasCause};
@@ -7,7 +7,7 @@ use layer_base::Failed;
 use std::io::{self, ErrorKind, Read, Write};
 use std::os::unix::fs::FileExt;
 
-/// How often one call is made at most.
+// How many times one call is tried.
 const TRIES: u32 = 1000;
 
 /// Reads what comes next into the front of the buffer.
@@ -23,7 +23,7 @@ pub fn read_next<F: Read>(file: &mut F, buf: &mut [u8]) -> io::Result<usize>
     Err(ErrorKind::Interrupted.into())
 }
 
-/// Reads from a place on into the front of the buffer.
+/// Reads from a place of the file on into the front of the buffer.
 pub fn read_from<F: FileExt>(file: &F, at: u64, buf: &mut [u8]) -> io::Result<usize>
     ensures { ReadsAtMost result buf.new }
 {
@@ -36,7 +36,7 @@ pub fn read_from<F: FileExt>(file: &F, at: u64, buf: &mut [u8]) -> io::Result<us
     Err(ErrorKind::Interrupted.into())
 }
 
-/// Writes the front of the piece. To take nothing of a piece is an error.
+/// Writes the front of the piece. To take nothing of a piece that has bytes is an error.
 pub fn write_some<F: Write>(file: &mut F, piece: &[u8]) -> io::Result<usize>
     ensures within { IfOk result (λ n. n ≤ length piece.now) }
     ensures some { IfOk result (λ n. 0 < length piece.now → 0 < n) }
@@ -51,7 +51,7 @@ pub fn write_some<F: Write>(file: &mut F, piece: &[u8]) -> io::Result<usize>
     Err(ErrorKind::Interrupted.into())
 }
 
-/// Counts a fault where the call failed.
+/// Counts a fault if the call failed.
 pub fn count_fault(faults: &mut u64, answer: io::Result<usize>) -> Result<usize, Failed>
     ensures ok { IfOk result (λ n. answer ≡ Ok n) }
     ensures cause { HasCause faults.old faults.new (IsErr result) }

@@ -8,10 +8,10 @@ use std::os::unix::fs::FileExt;
 use std::rt::Files;
 use std::{fs, io};
 
-/// How many bytes a file has at the most, so that no call of the system names a place from here on.
+// A file has at most this many bytes, so no system call reads at this place or behind it.
 const MOST_BYTES: u64 = (1 << 63) - 1;
 
-/// A file that is read at places. It is opened at the first read, and opened anew after a failure to open it.
+/// A file that is read at any place. The first read opens it. If that fails, the next read tries again.
 #[derive(Drop)]
 pub struct RealDevice<R: Files + Drop>
 where

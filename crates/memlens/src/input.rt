@@ -6,7 +6,7 @@ use crate::calls::count_fault;
 use layer_base::{Failed, Source};
 use std::io::Input;
 
-/// Standard input, which nothing else may read meanwhile, since some of it is read ahead.
+/// Standard input. Nothing else may read it meanwhile, since some of it is read ahead.
 #[derive(Drop)]
 pub struct RealInput<R: Input + Drop> {
     reader: R::Reader,

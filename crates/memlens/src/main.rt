@@ -8,15 +8,17 @@ mod calls;
 mod device;
 mod input;
 mod output;
+mod program;
 mod sink;
 mod source;
 
 use device::RealDevice;
 use file_layer::FileLayer;
 use input::RealInput;
-use layer_base::{Kind, Layer, PathWord, Steps};
+use layer_base::{Layer, PathWord, Steps};
 use output::RealOutput;
-use session::{Status, run};
+use program::{exit_code, paths_of, run_with_formats};
+use session::Status;
 use sink::RealSink;
 use source::RealSource;
 use std::alloc::{AllocError, Global};
@@ -27,8 +29,8 @@ use std::process::ExitCode;
 use std::rt::Runtime;
 use std::sync::ledger::{Blank, Ledger};
 
-/// The words of the command line, but for the program's own name. Where one is not text there are none, which is a
-/// refused command line too.
+// The words of the command line without the program's own name. If one is not UTF-8, none are answered, which the run
+// refuses too.
 fn read_words<R: Runtime<A = Global>>(rt: &R) -> Result<Vec<String>, AllocError> {
     let mut words = Vec::new(rt.alloc());
     let args = match env::args(rt) {
@@ -42,15 +44,7 @@ fn read_words<R: Runtime<A = Global>>(rt: &R) -> Result<Vec<String>, AllocError>
     Ok(words)
 }
 
-/// The paths of the image and of the symbol file. Words that the run refuses name none.
-fn paths(words: &[String]) -> (&str, &str) {
-    match words {
-        [image, symbols] => (image, symbols),
-        _ => ("", ""),
-    }
-}
-
-/// Lends the files and streams of the system to a run. They are opened at their first use.
+// Lends the files and streams of the system to a run. Each file is opened at its first use.
 fn run_files<L: Ledger>(rt: &HostRuntime, blank: Blank) -> Result<Status, AllocError>
     requires name { blank.name ≡ L.name }
     requires parts { blank.parts ≡ L.parts }
@@ -58,29 +52,27 @@ fn run_files<L: Ledger>(rt: &HostRuntime, blank: Blank) -> Result<Status, AllocE
 {
     let alloc = rt.alloc();
     let words = read_words(rt)?;
-    let (image, symbols) = paths(&words);
-    let device = RealDevice::new(rt.clone()?, PathWord::of(alloc, image)?);
+    let paths = paths_of(&words);
+    let device = RealDevice::new(rt.clone()?, PathWord::of(alloc, paths.image)?);
     let image: Box<dyn Layer> = Box::new(alloc, FileLayer::new(alloc, device))?;
-    let mut symbols = RealSource::new(rt.clone()?, PathWord::of(alloc, symbols)?);
+    let mut symbols = RealSource::new(rt.clone()?, PathWord::of(alloc, paths.symbols)?);
     let mut script = RealInput::new(rt.clone()?);
     let mut out = RealOutput::new(rt.clone()?);
     let mut dump = RealSink::new(rt.clone()?, PathWord::of(alloc, "")?);
     let mut steps = Steps::<L>::new(blank);
-    let ended = run(
+    Ok(run_with_formats(
         alloc,
         &words,
         image,
-        &[Kind::Lime],
         &mut symbols,
         &mut script,
         &mut out,
         &mut dump,
         &mut steps,
-    );
-    Ok(ended.status)
+    ))
 }
 
 fn main(rt: HostRuntime) -> ExitCode {
     let status = run_files::<Brand>(&rt, Blank::new(1)).unwrap_or(Status::Memory);
-    ExitCode::from(status.number())
+    exit_code(status)
 }

@@ -3,7 +3,7 @@ use crate::calls::{count_fault, write_some};
 use layer_base::{Sink, SinkFault};
 use std::io;
 
-/// Standard output. Nothing is kept back: a write is one call of the system.
+/// Standard output. Nothing is kept back: a write is one system call.
 #[derive(Drop)]
 pub struct RealOutput<R: Print + Drop> {
     rt: R,

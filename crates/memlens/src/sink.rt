@@ -6,8 +6,8 @@ use layer_base::{PathWord, Sink, SinkFault};
 use std::rt::Files;
 use std::{fs, io};
 
-/// A file that is written from its front. It is made, or emptied where it is there, at the first write, and at the next
-/// one after a failure to make it.
+/// A file that is written from its start. The first write creates it, or empties a file that is there. If that fails,
+/// the next write tries again.
 #[derive(Drop)]
 pub struct RealSink<R: Files + Drop> {
     rt: R,
@@ -17,7 +17,7 @@ pub struct RealSink<R: Files + Drop> {
 }
 
 impl<R: Files + Drop> RealSink<R> {
-    /// The sink into the file at the path. It makes nothing yet.
+    /// The sink into the file at the path. It creates nothing yet.
     pub fn new(rt: R, path: PathWord) -> Self {
         RealSink {
             rt,

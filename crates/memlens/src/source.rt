@@ -7,7 +7,7 @@ use layer_base::{Failed, PathWord, Source};
 use std::rt::Files;
 use std::{fs, io};
 
-/// A file that is read from its front. It is opened at the first read, and at the next one after a failure to open it.
+/// A file that is read from its start. The first read opens it. If that fails, the next read tries again.
 #[derive(Drop)]
 pub struct RealSource<R: Files + Drop> {
     rt: R,
