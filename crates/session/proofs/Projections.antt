@@ -70,7 +70,7 @@ pub Consumes-none : (left : Option (List ℕ)) → Consumes left left []
 Consumes-none None = tt
 Consumes-none (Some xs) = refl
 
--- where nothing failed it ended as it should, or memory was wanting
+-- where nothing failed it ended as it should, or memory ran out
 pub ended : (end should : Status) → IsRunEnd end → (IsAnswer end → end ≡ should) → (end ≡ status.ImageFault → ⊥) → (end ≡ status.SymbolsFault → ⊥) → (end ≡ status.ScriptFault → ⊥) → (end ≡ status.OutFault → ⊥) → (end ≡ should) ⊎ (end ≡ status.Memory)
 ended status.Ok should possible exact image symbols script out = inl (exact tt)
 ended status.Usage should possible exact image symbols script out = inl (exact tt)

@@ -58,7 +58,7 @@ module _ (evidence : Evidence) (outcome : Outcome) (none : outcome.script_taken 
       ended (Ok done) answered = refl
       ended (Err fault) answered = absurd (fault_is_no_answer fault answered)
 
--- A run that a fault of the image ended before the script, or want of memory.
+-- A run that a fault of the image or running out of memory ended before the script.
 pub none-ran : (evidence : Evidence) (outcome : Outcome) (script : List ℕ) (out : Option (List ℕ)) (end : Status) → (IsAnswer end → ⊥) → RanOver evidence outcome script (Some script) out out end
 none-ran evidence outcome script out end no_answer = (
   [],
@@ -76,7 +76,7 @@ none-ran evidence outcome script out end no_answer = (
   },
 )
 
--- a run that a refused symbol file ended, or want of memory
+-- a run that a refused symbol file or running out of memory ended
 pub refused-ran : (evidence : Evidence) (memory : AddressSpace) (wanted : Result Sections IsfRefusal) (refusal : IsfRefusal) (script : List ℕ) (out out' : Option (List ℕ)) (end : Status)
     → RefusesAs wanted refusal → EndsRefused refusal out out' end → RanOver evidence (table_run memory wanted script) script (Some script) out out' end
 refused-ran evidence memory wanted refusals.Memory script out out' end refuses ends = rw (ends.0, ends.1) (none-ran evidence (table_run memory wanted script) script out status.Memory (λ answer. answer))

@@ -18,7 +18,7 @@ abbrev pub cut_lines : List ℕ → Lines
 cut_lines [] = record { whole = []; rest = [] }
 cut_lines (byte ∷ bytes) = if byte == 10 then record { whole = [] ∷ (cut_lines bytes).whole; rest = (cut_lines bytes).rest } else onto_front byte (cut_lines bytes)
 
--- a line of its own, unless there is nothing in it
+-- one line of these bytes, or none where there are none
 abbrev pub unless_empty : List ℕ → List (List ℕ)
 unless_empty [] = []
 unless_empty (byte ∷ bytes) = (byte ∷ bytes) ∷ []

@@ -60,7 +60,7 @@ abbrev pub KeepsOrAttaches : List Kind → Option View → Kind → Option View 
 KeepsOrAttaches formats view kind view' kind' =
     ((view' ≡ view) × (kind' ≡ kind)) ⊎ (Contains formats kind' × IfSome view (λ before. Shows (attached formats before) view' kind'))
 
--- The tries came to what the formats give. A fault and want of memory say nothing of it.
+-- The tries came to what the formats give. A fault and running out of memory say nothing of it.
 abbrev pub TriesAs : Result Shown Refusal → Option View → Kind → Result (Unit {0}) StackFault → Type 0
 TriesAs stack view kind (Ok done) = (shown : Shown) × (stack ≡ Ok shown) × Shows shown view kind
 TriesAs stack view kind (Err (faults.Refused refusal)) = stack ≡ Err refusal

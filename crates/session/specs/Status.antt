@@ -20,7 +20,7 @@ number_of_status status.DumpFault = 9
 number_of_status status.ScriptTooLong = 10
 number_of_status status.Memory = 11
 
--- a status that says what the script came to, and not that something failed or was wanting
+-- a status that says what the script came to, and neither a fault nor out of memory
 abbrev pub IsAnswer : Status → Type 0
 IsAnswer status.Ok = Unit {0}
 IsAnswer status.Usage = Unit {0}

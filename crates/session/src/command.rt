@@ -147,7 +147,7 @@ fn write_unknown<O: Sink>(out: &mut O) -> Result<(), CommandFault>
     write_text(out, b"error: unknown command\n")
 }
 
-/// Writes a line of its own.
+/// Writes a whole text.
 pub(crate) fn write_text<O: Sink>(out: &mut O, text: &[u8]) -> Result<(), CommandFault>
     ensures text { Writes (O.written out.old) (O.written out.new) result text.now }
     ensures out { HasCause (O.faults out.old) (O.faults out.new) (IsErrOf result CommandFault.Out) }

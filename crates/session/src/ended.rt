@@ -180,7 +180,7 @@ fn run_image<Y: Layer, J: Source, S: Source, O: Sink, L: Ledger>(
     }
 }
 
-// A run over a layer that needn't be boxed.
+// A run over a layer that may be unboxed.
 fn run_over<Y: Layer, J: Source, S: Source, O: Sink, L: Ledger>(
     alloc: Global,
     words: &[String],
@@ -249,7 +249,7 @@ pub fn run<J: Source, S: Source, O: Sink, D: Sink, L: Ledger>(
     ensures whole_lines { WhereTold (view image) (J.left symbols.old) (S.left script.old) (λ before j s.
         HasWholeLines (evidence_of formats.now before j) (S.left script.old) (S.left script.new) (O.written out.old) (O.written out.new) result.status) }
 
-    // A status that is no fault and no want of memory is the one that the run comes to, and all was written and taken.
+    // A status other than a fault or out of memory is the one that the run comes to, and all was written and taken.
     ensures exact_status { WhereTold (view image) (J.left symbols.old) (S.left script.old) (λ before j s.
         IsAnswer result.status → result.status ≡ (run_of (map string_bytes words.now) formats.now before j s).status) }
     ensures exact_text { WhereTold (view image) (J.left symbols.old) (S.left script.old) (λ before j s.
@@ -275,7 +275,7 @@ pub fn run<J: Source, S: Source, O: Sink, D: Sink, L: Ledger>(
         IsAnswer result.status → Shows (shown_of (map string_bytes words.now) formats.now before) (view result.layer) (kind result.layer)) }
     ensures layer_calls { calls image ≤ calls result.layer }
 
-    // Where nothing failed, the run comes to its end, unless memory is wanting.
+    // Where nothing failed, the run comes to its end, unless memory runs out.
     ensures complete { WhereTold (view image) (J.left symbols.old) (S.left script.old) (λ before j s.
         NothingFailed (⟦<Box<dyn Layer> as Layer>⟧.faults image) (⟦<Box<dyn Layer> as Layer>⟧.faults result.layer) (J.faults symbols.old) (J.faults symbols.new) (S.faults script.old) (S.faults script.new)
         (O.faults out.old) (O.faults out.new) (D.faults dump.old) (D.faults dump.new)

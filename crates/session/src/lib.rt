@@ -20,38 +20,4 @@ pub use ended::{Ended, run};
 pub use status::Status;
 
 #[cfg(test)]
-mod fault_tests;
-#[cfg(test)]
-mod lime_refusal_tests;
-#[cfg(test)]
-mod lime_tests;
-#[cfg(test)]
-mod line_tests;
-#[cfg(test)]
-mod long_tests;
-#[cfg(test)]
-mod paging_tests;
-#[cfg(test)]
-mod quit_tests;
-#[cfg(test)]
-mod space_tests;
-#[cfg(test)]
-mod symbol_depth_tests;
-#[cfg(test)]
-mod symbol_long_tests;
-#[cfg(test)]
-mod symbol_refusal_tests;
-#[cfg(test)]
-mod symbol_source_tests;
-#[cfg(test)]
-mod symbol_tests;
-#[cfg(test)]
-mod test_images;
-#[cfg(test)]
-mod test_pages;
-#[cfg(test)]
-mod test_runs;
-#[cfg(test)]
-mod test_symbols;
-#[cfg(test)]
 mod tests;

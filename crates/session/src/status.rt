@@ -29,7 +29,7 @@ pub enum Status {
     DumpFault,
     /// The script has more bytes than are read.
     ScriptTooLong,
-    /// Memory was wanting.
+    /// Out of memory.
     Memory,
 }
 

@@ -178,7 +178,7 @@ fn write_refusal<O: Sink>(
     write_text(out, &line)
 }
 
-/// Ends a run whose symbol file is refused, or for which memory was wanting.
+/// Ends a run whose symbol file is refused, or for which memory ran out.
 pub(crate) fn refuse_symbols<O: Sink>(alloc: Global, refusal: IsfRefusal, out: &mut O) -> Status
     ensures refused { EndsRefused refusal (O.written out.old) (O.written out.new) result }
     ensures end { IsTableEnd result }
