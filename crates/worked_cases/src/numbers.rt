@@ -1,0 +1,36 @@
+//! Numbers and words of a line of a case file.
+use anyhow::{Context, Result, bail};
+
+/// A number: decimal, or hexadecimal behind `0x`.
+pub(crate) fn number_of(word: &str) -> Result<u64> {
+    let parsed = match word.strip_prefix("0x") {
+        Some(digits) => u64::from_str_radix(digits, 16),
+        None => u64::from_str_radix(word, 10),
+    };
+    parsed.context(format_args!("no number: {word}"))
+}
+
+pub(crate) fn size_of(word: &str) -> Result<usize> {
+    Ok(number_of(word)? as usize)
+}
+
+/// The first word of a text, and what follows the blank behind it.
+pub(crate) fn first_word(text: &str) -> (&str, &str) {
+    text.split_once(' ').unwrap_or((text, ""))
+}
+
+/// The words of a text, as many as are wanted.
+pub(crate) fn words_of<const N: usize>(text: &str) -> Result<[&str; N]> {
+    let mut words = [""; N];
+    let mut found = text.split_ascii_whitespace();
+    for word in words.iter_mut() {
+        match found.next() {
+            Some(next) => *word = next,
+            None => bail!("too few words"),
+        }
+    }
+    if found.next().is_some() {
+        bail!("too many words");
+    }
+    Ok(words)
+}
