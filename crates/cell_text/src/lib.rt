@@ -8,6 +8,3 @@ mod types;
 pub use number::append_number;
 pub use text::{append_text, text_cell};
 pub use types::{append_type, type_cell};
-
-#[cfg(test)]
-mod tests;

@@ -36,7 +36,7 @@ pub fn append_text(text: &mut Vec<u8>, bytes: &[u8]) -> Result<(), AllocError>
     Ok(())
 }
 
-/// The text of bytes, as `append_text` appends it.
+/// Returns the text of bytes, as `append_text` appends it.
 pub fn text_cell(alloc: Global, bytes: &[u8]) -> Result<Name, AllocError>
     ensures { IfOk result (λ cell. cell ≡ text_cell bytes.now) }
 {

@@ -57,7 +57,7 @@ pub fn append_type(text: &mut Vec<u8>, of: &TypeRef) -> Result<(), AllocError>
     }
 }
 
-/// The text of a type, as `append_type` appends it.
+/// Returns the text of a type, as `append_type` appends it.
 pub fn type_cell(alloc: Global, of: &TypeRef) -> Result<Name, AllocError>
     ensures { IfOk result (λ cell. cell ≡ type_cell of.now) }
 {

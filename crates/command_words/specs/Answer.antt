@@ -9,7 +9,7 @@ abbrev pub ◌>>=◌ : {A B : Type 0} → Result A LineFault → (A → Result B
 Ok value >>= next = next value
 Err fault >>= next = Err fault
 
--- a fault is the defined one; want of memory says nothing
+-- a fault is the defined one; out of memory says nothing
 abbrev pub RefusesAs : {A : Type 0} → LineFault → Result A LineFault → Type 0
 RefusesAs Memory defined = Unit {0}
 RefusesAs fault defined = defined ≡ Err fault

@@ -18,7 +18,7 @@ is_blank byte = byte == 32 || byte == 9
 abbrev pub trimmed : List ℕ → List ℕ
 trimmed line = if slice_index line (length line - 1) == 13 then take (length line - 1) line else line
 
--- the words of a line, parted by blanks and tabs
+-- the words of a line, separated by blanks and tabs
 abbrev pub words_of : List ℕ → List (List ℕ)
 words_of line = filter (λ word. nat_lt 0 (length word)) (slice_split is_blank line)
 

@@ -48,6 +48,6 @@ type_of_parts (first ∷ rest) = do
   path ← names_of rest
   Ok (name, path)
 
--- a type's name and a path, parted by dots that are looked for before escapes are read
+-- a type's name and a path, separated by dots that are looked for before escapes are read
 abbrev pub type_of : List ℕ → Result (List ℕ × List (List ℕ)) LineFault
 type_of word = type_of_parts (slice_split (λ byte. byte == 46) word)

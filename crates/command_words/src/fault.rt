@@ -22,7 +22,7 @@ pub enum LineFault {
     Hex,
     /// A length, the end of a range or the number of a path's names is outside its limits.
     Range,
-    /// Want of memory.
+    /// Out of memory.
     Memory,
 }
 

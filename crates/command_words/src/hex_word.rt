@@ -7,7 +7,7 @@ use hex::FromHexError;
 use layer_base::Name;
 use std::alloc::Global;
 
-/// Reads an even number of hexadecimal digits, at least two, as the bytes that they write.
+// Reads an even number of hexadecimal digits, at least two, as the bytes that they write.
 pub(crate) fn needle_of(alloc: Global, word: &[u8]) -> Result<Name, LineFault>
     ensures { Gives result (needle_of word.now) }
 {

@@ -10,7 +10,7 @@ use crate::words::command_of_verb;
 use crate::{Command, LineFault};
 use std::alloc::{AllocError, Global};
 
-/// The most bytes of a line, its carriage return counted.
+// The most bytes of a line, its carriage return counted.
 pub(crate) const MAX_LINE: usize = 4096;
 
 fn trimmed(line: &[u8]) -> &[u8]
@@ -51,10 +51,10 @@ fn command_of_words(alloc: Global, words: &[&[u8]]) -> Result<Command, LineFault
     command_of_verb(alloc, verb, rest)
 }
 
-/// Reads a line, which has no newline byte: its command, or the first fault of it in the order of `LineFault`. Any
-/// line may be answered by `Memory`.
+/// Reads a line, which has no newline byte: returns its command, or its first fault in the order of `LineFault`. Any
+/// line may be answered with `Memory`, which is out of memory.
 ///
-/// One carriage return at the end is dropped. Words are parted by blanks and tabs. A line without words, or whose
+/// One carriage return at the end is dropped. Words are separated by blanks and tabs. A line without words, or whose
 /// first word begins with `#`, asks for nothing.
 pub fn parse_line(alloc: Global, line: &[u8]) -> Result<Command, LineFault>
     ensures value { Gives result (command_of line.now) }

@@ -8,7 +8,7 @@ use crate::{LineFault, Names};
 use layer_base::Name;
 use std::alloc::Global;
 
-/// The byte of two hexadecimal digits.
+// The byte of two hexadecimal digits.
 fn escaped(high: u8, low: u8) -> Result<u8, LineFault>
     ensures { result ≡ escaped high low }
 {
@@ -18,7 +18,7 @@ fn escaped(high: u8, low: u8) -> Result<u8, LineFault>
     }
 }
 
-/// What stands behind a `%`: the byte of two hexadecimal digits, and the bytes behind them.
+// What stands behind a `%`: the byte of two hexadecimal digits, and the bytes behind them.
 fn piece_of(piece: &[u8]) -> Result<(u8, &[u8]), LineFault>
     ensures { MatchResult result (λ p. piece_of piece.now ≡ Ok (p.0 ∷ p.1.now)) (λ fault. piece_of piece.now ≡ Err fault) }
 {
@@ -28,7 +28,7 @@ fn piece_of(piece: &[u8]) -> Result<(u8, &[u8]), LineFault>
     }
 }
 
-/// Bytes, and what the pieces behind a `%` each stand for.
+// Bytes, and what the pieces behind a `%` each stand for.
 fn unescaped(alloc: Global, plain: &[u8], pieces: &[&[u8]]) -> Result<Name, LineFault>
     ensures { Gives result (name_of_pieces (plain.now ∷ map (λ piece. piece.now) pieces.now)) }
 {
@@ -41,7 +41,7 @@ fn unescaped(alloc: Global, plain: &[u8], pieces: &[&[u8]]) -> Result<Name, Line
     Ok(Name::from(bytes))
 }
 
-/// Reads a name: `%` and two hexadecimal digits stand for one byte, every other byte for itself.
+// Reads a name: `%` and two hexadecimal digits stand for one byte, every other byte for itself.
 pub(crate) fn name_of(alloc: Global, word: &[u8]) -> Result<Name, LineFault>
     ensures { Gives result (name_of word.now) }
 {
@@ -52,7 +52,7 @@ pub(crate) fn name_of(alloc: Global, word: &[u8]) -> Result<Name, LineFault>
     }
 }
 
-/// Reads names.
+// Reads names.
 fn names_of(alloc: Global, parts: &[&[u8]]) -> Result<Names, LineFault>
     ensures { Gives result (names_of (map (λ part. part.now) parts.now)) }
 {
@@ -63,7 +63,7 @@ fn names_of(alloc: Global, parts: &[&[u8]]) -> Result<Names, LineFault>
     Ok(names)
 }
 
-/// Reads a type's name and the path behind it, which dots part. The dots are looked for before escapes are read.
+// Reads a type's name and the path behind it, separated by dots. The dots are looked for before escapes are read.
 pub(crate) fn type_of(alloc: Global, word: &[u8]) -> Result<(Name, Names), LineFault>
     ensures { Gives result (type_of word.now) }
 {

@@ -29,7 +29,7 @@ impl Names {
         }
     }
 
-    /// Puts a name at the end. After want of memory the list is as it was.
+    /// Puts a name at the end. When out of memory, the list stays as it was.
     pub fn add(&mut self, item: Name) -> Result<(), AllocError>
         ensures ok { OnOk result (self.new ≡ self.old ++ item ∷ []) }
         ensures err { OnErr result (self.new ≡ self.old) }

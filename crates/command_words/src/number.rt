@@ -4,7 +4,7 @@ ghost use Rattle.command_words.specs.Number.{digits_of, with_digit, number_of};
 
 use crate::LineFault;
 
-/// The value of one or more digits in a base.
+// The value of one or more digits in a base.
 fn digits_of(base: u32, word: &[u8]) -> Result<u64, LineFault>
     requires low { 2 ≤ base }
     requires high { base ≤ 36 }
@@ -23,7 +23,7 @@ fn digits_of(base: u32, word: &[u8]) -> Result<u64, LineFault>
     Ok(value)
 }
 
-/// The value of digits, and of one more digit behind them.
+// The value of digits, and of one more digit behind them.
 fn with_digit(base: u32, value: u64, byte: u8) -> Option<u64>
     requires low { 2 ≤ base }
     requires high { base ≤ 36 }
@@ -35,7 +35,7 @@ fn with_digit(base: u32, value: u64, byte: u8) -> Option<u64>
         .checked_add(u64::from(digit))
 }
 
-/// Reads a number: decimal digits, or `0x` and hexadecimal digits of either case.
+// Reads a number: decimal digits, or `0x` and hexadecimal digits of either case.
 pub(crate) fn number_of(word: &[u8]) -> Result<u64, LineFault>
     ensures { result ≡ number_of word.now }
 {

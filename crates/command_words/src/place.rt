@@ -9,7 +9,7 @@ use crate::{AddrWord, LineFault, SpaceWord};
 use layer_base::Levels;
 use std::alloc::Global;
 
-/// The space of a task, whose PID is behind `task:`.
+// The space of a task, whose PID is behind `task:`.
 fn task_of(pid: &[u8]) -> Result<SpaceWord, LineFault>
     ensures { result ≡ task_of pid.now }
 {
@@ -28,7 +28,7 @@ fn paged_of(root: &[u8], levels: Levels) -> Result<SpaceWord, LineFault>
     }
 }
 
-/// The space of a root, which is behind `root:` and has `:4` or `:5` at its end.
+// The space of a root, which is behind `root:` and has `:4` or `:5` at its end.
 fn root_of(word: &[u8]) -> Result<SpaceWord, LineFault>
     ensures { result ≡ root_of word.now }
 {
@@ -41,7 +41,7 @@ fn root_of(word: &[u8]) -> Result<SpaceWord, LineFault>
     Err(LineFault::SpaceName)
 }
 
-/// Reads the word of a space.
+// Reads the word of a space.
 pub(crate) fn space_of(word: &[u8]) -> Result<SpaceWord, LineFault>
     ensures { result ≡ space_of word.now }
 {
@@ -60,7 +60,7 @@ pub(crate) fn space_of(word: &[u8]) -> Result<SpaceWord, LineFault>
     Err(LineFault::SpaceName)
 }
 
-/// Reads an address: a number, or `@` and a name of at least one byte.
+// Reads an address: a number, or `@` and a name of at least one byte.
 pub(crate) fn address_of(alloc: Global, word: &[u8]) -> Result<AddrWord, LineFault>
     ensures { Gives result (address_of word.now) }
 {
@@ -71,7 +71,7 @@ pub(crate) fn address_of(alloc: Global, word: &[u8]) -> Result<AddrWord, LineFau
     }
 }
 
-/// Whether so many bytes from an address on, at least one, end at or below the last address.
+// Whether so many bytes from an address on, at least one, end at or below the last address.
 fn ends_in_range(at: u64, len: u64) -> bool
     requires { 1 ≤ len }
     ensures { result ≡ nat_le (at + len) (2 ^ 64) }
@@ -79,7 +79,7 @@ fn ends_in_range(at: u64, len: u64) -> bool
     len - 1 <= u64::MAX - at
 }
 
-/// Whether a length is from 1 to a limit and, where the address is a number, ends at or below the last address.
+// Whether a length is from 1 to a limit and, where the address is a number, ends at or below the last address.
 pub(crate) fn is_stretch(most: u64, at: &AddrWord, len: u64) -> bool
     ensures { result ≡ is_stretch most at.now len }
 {

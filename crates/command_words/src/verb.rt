@@ -2,7 +2,7 @@
 ghost use Rattle.std.specs.Prelude.{◌≡◌};
 ghost use Rattle.command_words.specs.Verb.{word_of, verb_of};
 
-/// A command, without the words behind it.
+// A command, without the words behind it.
 #[derive(Clone, Copy, Debug, PartialEq, Eq)]
 pub(crate) enum Verb {
     Banners,
@@ -44,7 +44,7 @@ const VERBS: [Verb; 17] = [
     Verb::Scan,
 ];
 
-/// The word that names a command.
+// The word that names a command.
 fn word_of(verb: Verb) -> &'static [u8]
     ensures { result.now ≡ word_of verb }
 {
@@ -69,7 +69,7 @@ fn word_of(verb: Verb) -> &'static [u8]
     }
 }
 
-/// The command that a word names.
+// The command that a word names.
 pub(crate) fn verb_of(word: &[u8]) -> Option<Verb>
     ensures { result ≡ verb_of word.now }
 {

@@ -14,16 +14,16 @@ use crate::{Command, LineFault};
 use layer_base::Name;
 use std::alloc::Global;
 
-/// The most bytes that one `read` prints.
+// The most bytes that one `read` prints.
 pub(crate) const MAX_READ: u64 = 1_048_576;
 
-/// The most bytes that one `dump` writes.
+// The most bytes that one `dump` writes.
 pub(crate) const MAX_DUMP: u64 = 68_719_476_736;
 
-/// The most names of a path, behind that of its type.
+// The most names of a path, behind that of its type.
 pub(crate) const MAX_PATH: usize = 256;
 
-/// A command that no words follow.
+// A command that no words follow.
 fn alone(words: &[&[u8]], command: Command) -> Result<Command, LineFault>
     ensures { result ≡ of_none command (map (λ word. word.now) words.now) }
 {
@@ -33,7 +33,7 @@ fn alone(words: &[&[u8]], command: Command) -> Result<Command, LineFault>
     }
 }
 
-/// One word, a number.
+// One word, a number.
 fn number_alone(words: &[&[u8]]) -> Result<u64, LineFault>
     ensures { result ≡ of_one number_of (map (λ word. word.now) words.now) }
 {
@@ -43,7 +43,7 @@ fn number_alone(words: &[&[u8]]) -> Result<u64, LineFault>
     }
 }
 
-/// One word, a name.
+// One word, a name.
 fn name_alone(alloc: Global, words: &[&[u8]]) -> Result<Name, LineFault>
     ensures { Gives result (of_one name_of (map (λ word. word.now) words.now)) }
 {
@@ -53,7 +53,7 @@ fn name_alone(alloc: Global, words: &[&[u8]]) -> Result<Name, LineFault>
     }
 }
 
-/// `read SPACE ADDR LEN`.
+// `read SPACE ADDR LEN`.
 fn read_of(alloc: Global, space: &[u8], at: &[u8], len: &[u8]) -> Result<Command, LineFault>
     ensures { Gives result (read_of space.now at.now len.now) }
 {
@@ -66,7 +66,7 @@ fn read_of(alloc: Global, space: &[u8], at: &[u8], len: &[u8]) -> Result<Command
     Ok(Command::Read { space, at, len })
 }
 
-/// `dump SPACE ADDR LEN`.
+// `dump SPACE ADDR LEN`.
 fn dump_of(alloc: Global, space: &[u8], at: &[u8], len: &[u8]) -> Result<Command, LineFault>
     ensures { Gives result (dump_of space.now at.now len.now) }
 {
@@ -79,7 +79,7 @@ fn dump_of(alloc: Global, space: &[u8], at: &[u8], len: &[u8]) -> Result<Command
     Ok(Command::Dump { space, at, len })
 }
 
-/// `type SPACE ADDR TYPE`.
+// `type SPACE ADDR TYPE`.
 fn show_of(alloc: Global, space: &[u8], at: &[u8], name: &[u8]) -> Result<Command, LineFault>
     ensures { Gives result (show_of space.now at.now name.now) }
 {
@@ -97,7 +97,7 @@ fn show_of(alloc: Global, space: &[u8], at: &[u8], name: &[u8]) -> Result<Comman
     })
 }
 
-/// `translate SPACE ADDR`.
+// `translate SPACE ADDR`.
 fn translate_of(alloc: Global, space: &[u8], at: &[u8]) -> Result<Command, LineFault>
     ensures { Gives result (translate_of space.now at.now) }
 {
@@ -106,7 +106,7 @@ fn translate_of(alloc: Global, space: &[u8], at: &[u8]) -> Result<Command, LineF
     Ok(Command::Translate { space, at })
 }
 
-/// `scan SPACE ADDR LEN HEX`.
+// `scan SPACE ADDR LEN HEX`.
 fn scan_of(
     alloc: Global,
     space: &[u8],
@@ -131,7 +131,7 @@ fn scan_of(
     })
 }
 
-/// The words behind `read`.
+// The words behind `read`.
 fn read_words(alloc: Global, words: &[&[u8]]) -> Result<Command, LineFault>
     ensures { Gives result (of_three read_of (map (λ word. word.now) words.now)) }
 {
@@ -141,7 +141,7 @@ fn read_words(alloc: Global, words: &[&[u8]]) -> Result<Command, LineFault>
     }
 }
 
-/// The words behind `dump`.
+// The words behind `dump`.
 fn dump_words(alloc: Global, words: &[&[u8]]) -> Result<Command, LineFault>
     ensures { Gives result (of_three dump_of (map (λ word. word.now) words.now)) }
 {
@@ -151,7 +151,7 @@ fn dump_words(alloc: Global, words: &[&[u8]]) -> Result<Command, LineFault>
     }
 }
 
-/// The words behind `type`.
+// The words behind `type`.
 fn show_words(alloc: Global, words: &[&[u8]]) -> Result<Command, LineFault>
     ensures { Gives result (of_three show_of (map (λ word. word.now) words.now)) }
 {
@@ -161,7 +161,7 @@ fn show_words(alloc: Global, words: &[&[u8]]) -> Result<Command, LineFault>
     }
 }
 
-/// The words behind `translate`.
+// The words behind `translate`.
 fn translate_words(alloc: Global, words: &[&[u8]]) -> Result<Command, LineFault>
     ensures { Gives result (of_two translate_of (map (λ word. word.now) words.now)) }
 {
@@ -171,7 +171,7 @@ fn translate_words(alloc: Global, words: &[&[u8]]) -> Result<Command, LineFault>
     }
 }
 
-/// The words behind `scan`.
+// The words behind `scan`.
 fn scan_words(alloc: Global, words: &[&[u8]]) -> Result<Command, LineFault>
     ensures { Gives result (of_four scan_of (map (λ word. word.now) words.now)) }
 {
@@ -181,7 +181,7 @@ fn scan_words(alloc: Global, words: &[&[u8]]) -> Result<Command, LineFault>
     }
 }
 
-/// What the words behind a command ask for.
+// What the words behind a command ask for.
 pub(crate) fn command_of_verb(
     alloc: Global,
     verb: Verb,

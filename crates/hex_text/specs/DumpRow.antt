@@ -6,7 +6,7 @@ use Rattle.std.specs.List.{flat_map}
 abbrev pub hex_digit : ℕ → ℕ
 hex_digit n = if nat_lt n 10 then 48 + n else 87 + n
 
--- so many hexadecimal digits of a number, the most significant first; a digit is four bits
+-- the last so many hexadecimal digits of a number, the most significant first; a digit is four bits
 abbrev pub hex_digits : ℕ → ℕ → List ℕ
 hex_digits zero n = []
 hex_digits (suc place) n = hex_digit (n / 2 ^ (4 * place) % 16) ∷ hex_digits place n
@@ -25,7 +25,7 @@ abbrev pub character : Option ℕ → ℕ
 character None = 32
 character (Some byte) = if nat_le 32 byte && nat_le byte 126 then byte else 46
 
--- The address, two blanks, the bytes parted by a blank, two blanks, and the characters between strokes.
+-- the address, two blanks, the bytes separated by a blank, two blanks, and the characters between two `|`
 unfoldable pub dump_row : ℕ → List (Option ℕ) → List ℕ
 dump_row at cells = address_cell at ++ codes " " ++ flat_map (λ cell. codes " " ++ byte_cell cell) cells ++ codes "  |" ++ map character cells ++ codes "|"
 

@@ -4,6 +4,3 @@
 mod rows;
 
 pub use rows::{append_address, append_hex, append_rows, dump_row};
-
-#[cfg(test)]
-mod tests;

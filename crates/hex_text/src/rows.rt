@@ -17,7 +17,7 @@ fn hex_digit(value: u8) -> u8
     }
 }
 
-/// Appends so many hexadecimal digits in lower case, the most significant first.
+/// Appends the last `digits` hexadecimal digits of a value, in lower case, the most significant first.
 pub fn append_hex(text: &mut Vec<u8>, digits: u32, value: u64) -> Result<(), AllocError>
     requires { digits ≤ 16 }
     ensures { OnOk result (text.new.items ≡ text.old.items ++ hex_digits digits value) }
@@ -103,8 +103,8 @@ pub fn append_rows(text: &mut Vec<u8>, at: u64, cells: &[Option<u8>]) -> Result<
     Ok(())
 }
 
-/// One row of a dump, without a newline: the address, each byte in two digits or `--` where it is absent, and the
-/// bytes as characters.
+/// Returns one row of a dump, without a newline: the address, each byte in two digits or `--` where it is absent, and
+/// the bytes as characters.
 pub fn dump_row(alloc: Global, at: u64, cells: &[Option<u8>]) -> Result<Name, AllocError>
     requires some { 1 ≤ length cells.now }
     requires few { length cells.now ≤ 16 }

@@ -32,7 +32,7 @@ constant_at p = record { name = p.1; value = p.0 }
 abbrev pub constants_in : Members → Option (List Constant)
 constants_in ms = option_map (map constant_at) (values_onto [] ms)
 
--- no constants where there are none to read
+-- no constants where the key is missing or null
 abbrev pub constants_of : Option Data → Option (List Constant)
 constants_of None = Some []
 constants_of (Some d) = option_and_then constants_in (as_object d)

@@ -17,7 +17,7 @@ use Rattle.isf_reader.specs.declared.refusal.Key.TheVariants as keys
 use Rattle.isf_reader.specs.declared.symbol.Symbol.{Symbol}
 use Rattle.isf_reader.specs.declared.type_ref.TypeRef.{TypeRef}
 
--- no type where there is none to read
+-- no type where the key is missing or null
 abbrev pub optional_type : Option Data → Option (Option TypeRef)
 optional_type None = Some None
 optional_type (Some d) = option_map Some (type_of d)
@@ -26,7 +26,7 @@ optional_type (Some d) = option_map Some (type_of d)
 unfoldable pub decoded : List ℕ → Option (List ℕ)
 decoded text = result_ok (decode_of standard text)
 
--- no data where there are none to read
+-- no data where the key is missing or null
 abbrev pub optional_bytes : Option Data → Option (Option (List ℕ))
 optional_bytes None = Some None
 optional_bytes (Some d) = option_map Some (option_and_then decoded (as_str d))

@@ -31,7 +31,7 @@ user_kind_of text =
     else if bytes_eq text (codes "class") then Some kinds.Class
     else None
 
--- true or false, and false where there is nothing to read
+-- true or false; false where the key is missing or null
 abbrev pub flag_or_false : Option Data → Option Bool
 flag_or_false None = Some false
 flag_or_false (Some d) = as_bool d
@@ -60,7 +60,7 @@ field_at p = record { name = (p.0).1; offset = (p.0).0; of = (p.1).0; anonymous 
 abbrev pub fields_in : Members → Option (List Field)
 fields_in ms = option_map (map field_at) (fields_onto [] ms)
 
--- no fields where there are none to read
+-- no fields where the key is missing or null
 abbrev pub fields_of : Option Data → Option (List Field)
 fields_of None = Some []
 fields_of (Some d) = option_and_then fields_in (as_object d)

@@ -1,5 +1,5 @@
-//! How deep anonymous fields nest, found in rounds over all fields: who nests one level deeper follows from who nests
-//! so deep, whatever the number of ways to a field.
+//! How deep anonymous fields nest, found in rounds over all user types: a round marks the types that nest one level
+//! deeper than those that the round before it marked. So the work does not grow with the number of ways to a field.
 ghost use Rattle.std.specs.Prelude.{◌≡◌, ℕ, option_map, IfOk, OnOk};
 ghost use Rattle.std.specs.BTreeMap.{insert_entry};
 ghost use Rattle.std.specs.Cmp.Lexicographic.{slice_cmp};
@@ -77,7 +77,7 @@ fn round<'t>(
     Ok(found)
 }
 
-// Marks the types that nest deeper than 32 levels. Where none nests so deep as a round asks, none nests deeper.
+// Marks the types that nest deeper than 32 levels. Once a round marks no type, none nests deeper, and the rounds end.
 fn rounds<'t>(
     alloc: Global,
     users: &'t BTreeMap<Vec<u8>, UserType>,
@@ -107,7 +107,7 @@ fn first_marked<'t>(marks: &BTreeMap<&'t [u8], bool>) -> Option<&'t [u8]>
     None
 }
 
-/// The first user type in which anonymous fields nest deeper than 32 levels.
+// The first user type in which anonymous fields nest deeper than 32 levels.
 #[tactic(auto, unfolding(crate::specs::Depth::first_too_deep))]
 pub(crate) fn first_too_deep(
     alloc: Global,

@@ -45,7 +45,7 @@ impl Constants {
         }
     }
 
-    /// Puts a constant at the end. After want of memory the list is as it was.
+    /// Puts a constant at the end. When out of memory, the list stays as it was.
     pub fn add(&mut self, constant: Constant) -> Result<(), AllocError>
         ensures ok { OnOk result (self.new ≡ self.old ++ constant ∷ []) }
         ensures err { OnErr result (self.new ≡ self.old) }
@@ -119,7 +119,7 @@ fn constants_in(
     }
 }
 
-// The constants of an enum, and none where there are none to read.
+// The constants of an enum; the empty list where the key is missing or null.
 fn constants_of(alloc: Global, value: Option<&Value>) -> Result<Option<Constants>, AllocError>
     ensures { IfOk result (λ constants. constants ≡ constants_of (option_map (λ v. view v.now) value.entry)) }
 {

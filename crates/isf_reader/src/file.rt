@@ -50,7 +50,7 @@ fn parts_of(mut root: Map<String, Value>) -> Parts
     }
 }
 
-/// The entries of the four sections.
+// The entries of the four sections.
 #[derive(Drop)]
 pub(crate) struct Maps {
     pub bases: BTreeMap<Vec<u8>, BaseType>,
@@ -100,7 +100,7 @@ fn maps_of(alloc: Global, parts: Parts) -> Result<Maps, IsfRefusal>
     })
 }
 
-/// The entries of a file.
+// The entries of a file.
 pub(crate) fn file_of(alloc: Global, root: Value) -> Result<Maps, IsfRefusal>
     ensures ok { IfOk result (λ maps. file_of (view root) ≡ Ok (sections_view maps)) }
     ensures err { IfErr result (RefusesAs (file_of (view root))) }
@@ -115,7 +115,7 @@ pub(crate) fn file_of(alloc: Global, root: Value) -> Result<Maps, IsfRefusal>
     }
 }
 
-/// The JSON value that bytes are.
+// The JSON value that bytes are.
 pub(crate) fn tree_of(alloc: Global, json: &[u8]) -> Result<Value, IsfRefusal>
     ensures ok { IfOk result (λ root. tree_of json.now ≡ Some (view root)) }
     ensures err { IfErr result (λ e. (e ≡ IsfRefusal.Memory) ⊎ ((e ≡ IsfRefusal.NotJson) × (tree_of json.now ≡ None))) }

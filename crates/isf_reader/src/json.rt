@@ -7,7 +7,7 @@ use layer_base::Name;
 use serde_json::Value;
 use std::alloc::{AllocError, Global};
 
-/// What stands at a key: None where the key is missing, or null.
+// What stands at a key: None where the key is missing, or null.
 pub(crate) fn given<'v>(entry: &'v Value, key: &str) -> Option<&'v Value>
     ensures { option_map (λ v. view v.now) result ≡ given key.now (view entry.now) }
 {
@@ -15,7 +15,7 @@ pub(crate) fn given<'v>(entry: &'v Value, key: &str) -> Option<&'v Value>
     if value.is_null() { None } else { Some(value) }
 }
 
-/// A whole number from 0 to 4,294,967,295.
+// A whole number from 0 to 4,294,967,295.
 pub(crate) fn count_of(value: &Value) -> Option<u64>
     ensures { result ≡ count_of (view value.now) }
 {
@@ -23,7 +23,7 @@ pub(crate) fn count_of(value: &Value) -> Option<u64>
     if number < 1 << 32 { Some(number) } else { None }
 }
 
-/// A whole number of either sign.
+// A whole number of either sign.
 pub(crate) fn integer_of(value: &Value) -> Option<i128>
     ensures { result ≡ integer_of (view value.now) }
 {
@@ -57,14 +57,14 @@ pub(crate) fn flag_at(entry: &Value, key: &str) -> Option<bool>
     entry.get(key).and_then(Value::as_bool)
 }
 
-/// A copy of a text.
+// A copy of a text.
 pub(crate) fn name_of(alloc: Global, text: &str) -> Result<Name, AllocError>
     ensures { IfOk result (λ name. name ≡ text.now) }
 {
     Ok(Name::from(Vec::from_slice(alloc, text.as_bytes())?))
 }
 
-/// A copy of the text at a key.
+// A copy of the text at a key.
 pub(crate) fn name_at(alloc: Global, entry: &Value, key: &str) -> Result<Option<Name>, AllocError>
     ensures { IfOk result (λ name. name ≡ text_at key.now (view entry.now)) }
 {

@@ -11,8 +11,6 @@ mod refusal;
 mod section;
 mod symbol;
 mod table;
-#[cfg(test)]
-mod tests;
 mod type_of;
 mod type_ref;
 mod user_type;

@@ -32,7 +32,7 @@ pub enum Key {
 }
 
 /// Why a symbol file is refused: its length, its text, the first entry at fault, or the first user type whose
-/// anonymous fields are nested too deep. `Memory` is want of memory, and says nothing of the file.
+/// anonymous fields are nested too deep. `Memory` is out of memory, and says nothing of the file.
 #[derive(Debug, Drop)]
 pub enum IsfRefusal {
     TooLarge {

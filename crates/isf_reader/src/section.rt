@@ -15,16 +15,16 @@ use serde_json::{Map, Value};
 use std::alloc::{AllocError, Global};
 use std::collections::BTreeMap;
 
-/// What a section has entries of.
+// What a section has entries of.
 pub(crate) trait Entry: Drop + Sized {
     ghost reads: { List ℕ → Data → Result Self Key };
 
-    /// Reads the entry of that name, or gives its first key at fault.
+    // Reads the entry of that name, or gives its first key at fault.
     fn read(alloc: Global, name: &[u8], entry: &Value) -> Result<Result<Self, Key>, AllocError>
         ensures { IfOk result (λ read. read ≡ reads name.now (view entry.now)) };
 }
 
-/// A name that entries stand under, in byte order.
+// A name that entries stand under, in byte order.
 pub(crate) trait EntryName: Ord + Drop + Sized {
     ghost spelled: { Self → List ℕ };
 
@@ -54,7 +54,7 @@ impl EntryName for Name {
     }
 }
 
-/// The first key at fault, and the name of its entry.
+// The first key at fault, and the name of its entry.
 #[derive(Debug, Drop)]
 pub(crate) struct Fault {
     pub name: Name,
@@ -129,7 +129,7 @@ fn section_in<K: EntryName, E: Entry>(
     }
 }
 
-/// Reads a section, which may be missing, or gives the first of its entries at fault.
+// Reads a section, which may be missing, or gives the first of its entries at fault.
 pub(crate) fn section_of<K: EntryName, E: Entry>(
     alloc: Global,
     section: Option<Value>,

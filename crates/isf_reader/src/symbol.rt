@@ -21,7 +21,7 @@ pub struct Symbol {
     pub constant: Option<Bytes>,
 }
 
-// The type of a symbol, and none where there is none to read.
+// The type of a symbol; no type where the key is missing or null.
 fn optional_type(
     alloc: Global,
     value: Option<&Value>,
@@ -46,7 +46,7 @@ fn decoded(alloc: Global, text: &str) -> Result<Option<Bytes>, AllocError>
     }
 }
 
-// The data of a symbol, and none where there are none to read.
+// The data of a symbol; no data where the key is missing or null.
 fn optional_bytes(alloc: Global, value: Option<&Value>) -> Result<Option<Option<Bytes>>, AllocError>
     ensures { IfOk result (λ bytes. bytes ≡ optional_bytes (option_map (λ v. view v.now) value.entry)) }
 {

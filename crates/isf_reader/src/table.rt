@@ -106,7 +106,7 @@ impl Table {
         })
     }
 
-    /// The base type of a name. None exactly where there is none.
+    /// Returns the base type with a name, or None where no base type has it.
     pub fn base(&self, name: &[u8]) -> Option<&BaseType>
         ensures value { option_copied result ≡ entry_named name.now self.now.bases }
         ensures kept { IsTable self.now }
@@ -114,7 +114,7 @@ impl Table {
         entry_of(&self.bases, name)
     }
 
-    /// The enum of a name. None exactly where there is none.
+    /// Returns the enum with a name, or None where no enum has it.
     pub fn enumeration(&self, name: &[u8]) -> Option<&EnumType>
         ensures value { option_copied result ≡ entry_named name.now self.now.enums }
         ensures kept { IsTable self.now }
@@ -122,7 +122,7 @@ impl Table {
         entry_of(&self.enums, name)
     }
 
-    /// The user type of a name. None exactly where there is none.
+    /// Returns the user type with a name, or None where no user type has it.
     pub fn user(&self, name: &[u8]) -> Option<&UserType>
         ensures value { option_copied result ≡ entry_named name.now self.now.users }
         ensures kept { IsTable self.now }

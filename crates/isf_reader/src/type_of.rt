@@ -58,7 +58,7 @@ fn shape_at(value: &Value) -> Option<Shape>
     shape_of(text_at(value, "kind")?)
 }
 
-/// Reads a descriptor. None where it describes no type.
+// Reads a descriptor. None where it describes no type.
 #[cycle(type_of)]
 pub(crate) fn type_of(alloc: Global, value: &Value) -> Result<Option<TypeRef>, AllocError>
     ensures { IfOk result (λ of. of ≡ type_of (view value.now)) }

@@ -60,7 +60,7 @@ impl Fields {
         }
     }
 
-    /// Puts a field at the end. After want of memory the list is as it was.
+    /// Puts a field at the end. When out of memory, the list stays as it was.
     pub fn add(&mut self, field: Field) -> Result<(), AllocError>
         ensures ok { OnOk result (self.new ≡ self.old ++ field ∷ []) }
         ensures err { OnErr result (self.new ≡ self.old) }
@@ -100,7 +100,7 @@ fn user_kind_of(text: &str) -> Option<UserKind>
     }
 }
 
-// True or false, and false where there is nothing to read.
+// True or false; false where the key is missing or null.
 fn flag_or_false(value: Option<&Value>) -> Option<bool>
     ensures { result ≡ flag_or_false (option_map (λ v. view v.now) value.entry) }
 {
@@ -176,7 +176,7 @@ fn fields_in(alloc: Global, members: &Map<String, Value>) -> Result<Option<Field
     }
 }
 
-// The fields of a user type, and none where there are none to read.
+// The fields of a user type; the empty list where the key is missing or null.
 fn fields_of(alloc: Global, value: Option<&Value>) -> Result<Option<Fields>, AllocError>
     ensures { IfOk result (λ fields. fields ≡ fields_of (option_map (λ v. view v.now) value.entry)) }
 {

@@ -36,15 +36,15 @@ listed line = (line.name.now, line.symbol.now)
 abbrev pub by_name : List ℕ → List Named → Option Told
 by_name name symbols = option_map (λ symbol. told (name, symbol)) (entry_named name symbols)
 
--- the symbol at an address whose name is first in byte order
+-- the symbol at an address; ties go to the first name in byte order
 abbrev pub at_address : ℕ → List Named → Option Told
 at_address address symbols = option_map told (find (λ named. address_of named == address) symbols)
 
--- the number of a list that is not above any of it
+-- the least number of a list
 unfoldable pub least : List ℕ → Option ℕ
 least ns = find (λ n. list_all (λ m. nat_le n m) ns) ns
 
--- the number of a list that is not below any of it
+-- the greatest number of a list
 unfoldable pub greatest : List ℕ → Option ℕ
 greatest ns = find (λ n. list_all (λ m. nat_le m n) ns) ns
 
@@ -52,6 +52,6 @@ greatest ns = find (λ n. list_all (λ m. nat_le m n) ns) ns
 abbrev pub next_after : ℕ → List Named → Option ℕ
 next_after address symbols = least (filter (λ other. nat_lt address other) (map address_of symbols))
 
--- the symbol at the greatest address not above whose name is first in byte order
+-- the symbol at the greatest address at or below one; ties go to the first name in byte order
 abbrev pub at_or_before : ℕ → List Named → Option Told
 at_or_before address symbols = option_and_then (λ nearest. at_address nearest symbols) (greatest (filter (λ other. nat_le other address) (map address_of symbols)))

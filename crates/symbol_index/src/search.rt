@@ -42,7 +42,7 @@ fn count_below(lines: &[Line<'_>], address: u64) -> usize
     )
 }
 
-// How many addresses are not above one.
+// How many addresses are at or below one.
 fn count_up_to(lines: &[Line<'_>], address: u64) -> usize
     requires { IsNonDecreasingBy line_address lines.now }
     ensures bound { result ≤ length lines.now }
@@ -82,7 +82,7 @@ pub(crate) fn next_after(lines: &[Line<'_>], address: u64) -> Option<u64>
     }
 }
 
-// The greatest address not above.
+// The greatest address at or below one.
 fn nearest(lines: &[Line<'_>], address: u64) -> Option<u64>
     requires { IsNonDecreasingBy line_address lines.now }
     ensures { result ≡ greatest (filter (λ other. nat_le other address) (map line_address lines.now)) }
@@ -95,7 +95,7 @@ fn nearest(lines: &[Line<'_>], address: u64) -> Option<u64>
     }
 }
 
-// The first symbol at the greatest address not above.
+// The first symbol at the greatest address at or below one.
 pub(crate) fn first_at_nearest<'t>(lines: &[Line<'t>], address: u64) -> Option<Line<'t>>
     requires { IsNonDecreasingBy line_address lines.now }
     ensures { result ≡ option_and_then (λ nearest. find (λ line. line_address line == nearest) lines.now)

@@ -33,7 +33,7 @@ impl<'t> Model for Symbols<'t> {
 }
 
 impl<'t> Symbols<'t> {
-    /// The index of a table's symbols. It takes all its memory here.
+    /// Makes the index of a table's symbols. It takes all its memory here.
     pub fn of(alloc: Global, table: &'t Table) -> Result<Symbols<'t>, AllocError>
         ensures { IfOk result (λ symbols. symbols ≡ table.now.symbols) }
     {
@@ -45,29 +45,29 @@ impl<'t> Symbols<'t> {
         })
     }
 
-    /// The symbol of a name. None exactly where there is none.
+    /// Returns the symbol with a name, or None where no symbol has it.
     pub fn by_name(&self, name: &[u8]) -> Option<Entry<'t>>
         ensures { option_map held result ≡ by_name name.now self.now }
     {
         entry_of(line_named(&self.by_name, name))
     }
 
-    /// The symbol at an address, and of several the first by name in byte order. None exactly where there is none.
+    /// Returns the symbol at an address, or None where there is no symbol; ties go to the first name in byte order.
     pub fn at_address(&self, address: u64) -> Option<Entry<'t>>
         ensures { option_map held result ≡ at_address address self.now }
     {
         entry_of(first_at(&self.by_address, address))
     }
 
-    /// The least address of a symbol that is greater. None exactly where there is none.
+    /// Returns the least address of a symbol above an address, or None where no symbol is above it.
     pub fn next_after(&self, address: u64) -> Option<u64>
         ensures { result ≡ next_after address self.now }
     {
         next_after(&self.by_address, address)
     }
 
-    /// The symbol at the greatest address that is not above, and of several the first by name in byte order. None
-    /// exactly where there is none.
+    /// Returns the symbol at the greatest address that is at or below an address, or None where no symbol is; ties go
+    /// to the first name in byte order.
     pub fn at_or_before(&self, address: u64) -> Option<Entry<'t>>
         ensures { option_map held result ≡ at_or_before address self.now }
     {

@@ -43,7 +43,7 @@ fn own_field<'t>(fields: &'t [Field], name: &[u8]) -> Option<Place<'t>>
     })
 }
 
-/// Where a user type has a name, through anonymous fields that nest at most so deep.
+// Where a user type has a name, through anonymous fields that nest at most so deep.
 #[cycle(found)]
 pub(crate) fn found_in<'t>(
     table: &'t Table,

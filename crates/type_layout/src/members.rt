@@ -13,8 +13,8 @@ const DEEPEST: u64 = 32;
 /// The place of the member of that name in a struct, union or class. A field of that very name comes first, anonymous
 /// or not; else the anonymous fields of kind struct, union or class with a defined name are searched by offset and then
 /// by name, each in the same way, and the first that has the name gives its own offset plus the offset found.
-/// `NotCompound` comes exactly for a type of another kind, then `NoType` exactly where nothing defines the type's name,
-/// and `NoMember` exactly where no field has the name.
+/// Errors: `NotCompound` for a type of another kind, else `NoType` where nothing defines the type's name, else `NoMember`
+/// where no field has the name.
 pub fn member<'t>(table: &'t Table, of: &TypeRef, name: &[u8]) -> Result<Place<'t>, TypeFault>
     ensures value { result_map_both spot (λ fault. fault) result ≡ member table.now of.now name.now }
     ensures rule { IsTable table.now → IsSearchedAlike table.now.users name.now }

@@ -59,8 +59,8 @@ fn times(count: u64, size: u64) -> Result<u64, TypeFault>
 
 /// The size of a type in bytes: a base type, an enum and a user type have the size of their entry in the table, a
 /// pointer that of the base type `pointer`, or 8, an array its count times the size of an element, a bit field that of
-/// its type, and a function 0. `NoType` comes exactly where nothing defines a name, and `TooBig` exactly where an array
-/// has more than 2^63 - 1 bytes.
+/// its type, and a function 0. Errors: `NoType` where nothing defines a name, and `TooBig` where an array has more than
+/// 2^63 - 1 bytes.
 pub fn size_of(table: &Table, of: &TypeRef) -> Result<u64, TypeFault>
     ensures { result ≡ size_of table.now of.now }
 {

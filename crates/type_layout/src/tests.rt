@@ -1,10 +1,9 @@
-//! Sizes and places in small symbol files, written with `'` for `"`.
+//! Sizes and places, which no command asks for yet, in small symbol files that are written with `'` for `"`.
 use crate::{TypeFault, member, resolve, size_of};
 use isf_reader::{Table, TypeRef};
 use layer_base::Name;
 use sqlite_items::Boxed;
 use std::alloc::{AllocError, Global};
-use std::process::Abort;
 use std::test::Fail;
 
 // An anonymous union within a struct, an enum and a bit field.
@@ -45,98 +44,58 @@ const KINDS: &str = "{'base_types':{\
 'more':{'offset':48,'type':{'kind':'array','count':2147483648,'subtype':\
 {'kind':'array','count':2147483648,'subtype':{'kind':'array','count':2,'subtype':{'kind':'base','name':'char'}}}}}}}}}";
 
-fn read(alloc: Global, text: &str) -> Result<Option<Table>, AllocError> {
+fn read(alloc: Global, text: &str) -> Result<Table, Fail> {
     let json: Vec<u8> = text
         .bytes()
         .map(|byte| if byte == b'\'' { b'"' } else { byte })
         .collect(alloc)?;
-    Ok(Table::read(alloc, &json).ok())
+    Ok(Table::read(alloc, &json)?)
 }
 
 fn name(alloc: Global, text: &str) -> Result<Name, AllocError> {
     Ok(Name::from(Vec::from_slice(alloc, text.as_bytes())?))
 }
 
-// Members with these offsets and sizes.
-fn expect_members(rt: &impl Abort, table: &Table, of: &TypeRef, rows: &[(&str, u64, u64)]) {
-    for (name, offset, size) in rows {
-        let told = match member(table, of, name.as_bytes()) {
-            Ok(place) => place.offset == *offset && size_of(table, place.of) == Ok(*size),
-            Err(_) => false,
-        };
-        assert!(rt; told, "{name}");
+#[test]
+fn members(rt: HostRuntime) -> Result<(), Fail> {
+    let alloc = rt.alloc();
+    let probe = read(alloc, PROBE)?;
+    let kinds = read(alloc, KINDS)?;
+    for (table, of, member_name, wanted) in [
+        (&probe, "probe", "a", Ok((0, Ok(2)))),
+        (&probe, "probe", "f", Ok((2, Ok(1)))),
+        (&probe, "probe", "unnamed_field_0", Ok((4, Ok(4)))),
+        (&probe, "probe", "n", Ok((4, Ok(4)))),
+        (&probe, "probe", "c", Ok((4, Ok(1)))),
+        (&probe, "probe", "q", Err(TypeFault::NoMember)),
+        (&kinds, "kinds", "x", Ok((9, Ok(1)))),
+        (&kinds, "kinds", "y", Ok((19, Ok(1)))),
+        (&kinds, "kinds", "own", Ok((24, Ok(4)))),
+        (&kinds, "kinds", "call", Ok((28, Ok(0)))),
+        (&kinds, "kinds", "text", Ok((32, Ok(16)))),
+        (&kinds, "kinds", "most", Ok((48, Ok((1 << 63) - 1)))),
+        (&kinds, "kinds", "more", Ok((48, Err(TypeFault::TooBig)))),
+        (&kinds, "kinds", "gone", Ok((20, Err(TypeFault::NoType)))),
+        (&kinds, "nothing", "x", Err(TypeFault::NoType)),
+    ] {
+        let of = TypeRef::Union(name(alloc, of)?);
+        let seen = member(table, &of, member_name.as_bytes()).map(|place| (
+            place.offset,
+            size_of(table, place.of),
+        ));
+        assert_eq!(rt; seen, wanted, "{member_name}");
     }
-}
-
-// Names that are no members, for this reason.
-fn expect_none(rt: &impl Abort, table: &Table, of: &TypeRef, name: &str, fault: TypeFault) {
-    assert!(rt;
-        member(table, of, name.as_bytes()).err() == Some(fault),
-        "{name}"
-    );
-}
-
-#[test]
-fn a_member_of_an_anonymous_union(rt: HostRuntime) -> Result<(), Fail> {
-    let alloc = rt.alloc();
-    let Some(table) = read(alloc, PROBE)? else {
-        assert!(rt; false, "no table");
-        return Ok(());
-    };
-    let probe = TypeRef::Struct(name(alloc, "probe")?);
-    assert!(rt; size_of(&table, &probe) == Ok(8));
-    let rows = [
-        ("a", 0, 2),
-        ("f", 2, 1),
-        ("unnamed_field_0", 4, 4),
-        ("n", 4, 4),
-        ("c", 4, 1),
-    ];
-    expect_members(&rt, &table, &probe, &rows);
-    expect_none(&rt, &table, &probe, "q", TypeFault::NoMember);
-    let pointer = TypeRef::Pointer(Boxed::new(alloc, probe)?);
-    assert!(rt; size_of(&table, &pointer) == Ok(8));
-    expect_none(&rt, &table, &pointer, "a", TypeFault::NotCompound);
     Ok(())
 }
 
 #[test]
-fn kinds_of_types(rt: HostRuntime) -> Result<(), Fail> {
+fn paths_and_pointers(rt: HostRuntime) -> Result<(), Fail> {
     let alloc = rt.alloc();
-    let Some(table) = read(alloc, KINDS)? else {
-        assert!(rt; false, "no table");
-        return Ok(());
-    };
-    let kinds = TypeRef::Class(name(alloc, "kinds")?);
-    let rows = [
-        ("x", 9, 1),
-        ("y", 19, 1),
-        ("own", 24, 4),
-        ("call", 28, 0),
-        ("text", 32, 16),
-        ("most", 48, 9_223_372_036_854_775_807),
-    ];
-    expect_members(&rt, &table, &kinds, &rows);
-    let gone = member(&table, &kinds, b"gone").ok();
-    assert!(rt; gone.map(|place| size_of(&table, place.of)) == Some(Err(TypeFault::NoType)));
-    let more = member(&table, &kinds, b"more").ok();
-    assert!(rt; more.map(|place| size_of(&table, place.of)) == Some(Err(TypeFault::TooBig)));
-    let nothing = TypeRef::Union(name(alloc, "nothing")?);
-    expect_none(&rt, &table, &nothing, "x", TypeFault::NoType);
-    Ok(())
-}
-
-#[test]
-fn paths(rt: HostRuntime) -> Result<(), Fail> {
-    let alloc = rt.alloc();
-    let Some(table) = read(alloc, KINDS)? else {
-        assert!(rt; false, "no table");
-        return Ok(());
-    };
+    let table = read(alloc, KINDS)?;
     let kinds = TypeRef::Struct(name(alloc, "kinds")?);
     let path = [name(alloc, "a_second")?, name(alloc, "y")?];
     let place = resolve(&table, &kinds, &path).ok();
-    assert!(rt; place.map(|place| place.offset) == Some(19));
+    assert_eq!(rt; place.map(|place| place.offset), Some(19));
     let path = [
         name(alloc, "z_first")?,
         name(alloc, "x")?,
@@ -144,6 +103,11 @@ fn paths(rt: HostRuntime) -> Result<(), Fail> {
     ];
     let refusal = resolve(&table, &kinds, &path).err();
     let told = refusal.map(|refusal| (refusal.index, refusal.fault));
-    assert!(rt; told == Some((2, TypeFault::NotCompound)));
+    assert_eq!(rt; told, Some((2, TypeFault::NotCompound)));
+    let probe = read(alloc, PROBE)?;
+    let pointer = TypeRef::Pointer(Boxed::new(alloc, kinds)?);
+    assert_eq!(rt; size_of(&probe, &pointer), Ok(8));
+    let pointed = member(&probe, &pointer, b"a").err();
+    assert_eq!(rt; pointed, Some(TypeFault::NotCompound));
     Ok(())
 }
