@@ -18,6 +18,3 @@ mod words;
 
 pub use ended::{Ended, run};
 pub use status::Status;
-
-#[cfg(test)]
-mod tests;
