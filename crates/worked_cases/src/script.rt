@@ -16,6 +16,8 @@ pub(crate) struct Script {
     pub(crate) text: Vec<u8>,
     /// How many bytes the run leaves.
     pub(crate) left: usize,
+    /// The length of the text that is written before a line is taken.
+    front: usize,
     ends: Vec<End>,
 }
 
@@ -43,6 +45,7 @@ impl Script {
             bytes,
             text,
             left: rest.len(),
+            front: front.len(),
             ends,
         })
     }
@@ -56,5 +59,17 @@ impl Script {
             }
         }
         length
+    }
+
+    /// How many bytes are taken when a text of this length has been written, but no more of the text: no line yet, or
+    /// those through the line that prints what comes next.
+    pub(crate) fn taken_at(&self, length: usize) -> usize {
+        if length < self.front {
+            return 0;
+        }
+        match self.ends.iter().find(|end| length < end.text) {
+            Some(end) => end.bytes,
+            None => self.bytes.len(),
+        }
     }
 }
