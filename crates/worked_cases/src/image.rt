@@ -89,7 +89,8 @@ impl Image {
 
     // Adds a header of LiME, version 1, and so many zeros behind it.
     fn add(&mut self, first: u64, last: u64, kept: usize) -> Result<()> {
-        self.file.extend_from_slice(&[0x45, 0x4d, 0x69, 0x4c, 1, 0, 0, 0])?;
+        self.file
+            .extend_from_slice(&[0x45, 0x4d, 0x69, 0x4c, 1, 0, 0, 0])?;
         self.file.extend_from_slice(&first.to_le_bytes())?;
         self.file.extend_from_slice(&last.to_le_bytes())?;
         self.file.extend_from_slice(&[0; 8])?;

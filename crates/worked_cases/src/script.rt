@@ -2,7 +2,7 @@
 use crate::case::ScriptLine;
 use std::alloc::{AllocError, Global};
 
-/// Where a line ends: in the bytes of the script, and its text in the whole text.
+/// Where a line ends: behind its newline in the bytes of the script, and its text in the whole text.
 #[derive(Clone, Copy)]
 struct End {
     bytes: usize,
@@ -35,8 +35,10 @@ impl Script {
         for line in lines {
             bytes.extend_from_slice(&line.bytes)?;
             text.extend_from_slice(&line.text)?;
+            // a newline that is missing would stand one byte further
+            let missing = usize::from(!line.bytes.ends_with(b"\n"));
             ends.push(End {
-                bytes: bytes.len(),
+                bytes: bytes.len().saturating_add(missing),
                 text: text.len(),
             })?;
         }
@@ -50,7 +52,7 @@ impl Script {
         })
     }
 
-    /// The length of the text of the lines that end within so many bytes.
+    /// The length of the text of the lines whose newline stands within so many bytes.
     pub(crate) fn text_within(&self, taken: usize) -> usize {
         let mut length = 0;
         for end in &self.ends {
@@ -68,7 +70,7 @@ impl Script {
             return 0;
         }
         match self.ends.iter().find(|end| length < end.text) {
-            Some(end) => end.bytes,
+            Some(end) => end.bytes.min(self.bytes.len()),
             None => self.bytes.len(),
         }
     }

@@ -40,7 +40,12 @@ fn sweep_image(checker: &mut Checker, setting: &Setting<'_>, calls: u64) -> Resu
         let taken = script.bytes.len().saturating_sub(seen.script_left);
         let least = script.text_within(taken.saturating_sub(1));
         if seen.text.len() < least {
-            checker.expect_number(setting.way, "least length of the text", least, seen.text.len())?;
+            checker.expect_number(
+                setting.way,
+                "least length of the text",
+                least,
+                seen.text.len(),
+            )?;
         }
     }
     checker.expect_whole(&setting.with(Change::ImageFails(calls)))?;
@@ -58,7 +63,12 @@ fn sweep_symbols(checker: &mut Checker, setting: &Setting<'_>, calls: u64) -> Re
         checker.expect_number(setting.way, "left of the script", left, seen.script_left)?;
         let given = (call as usize).saturating_mul(setting.plan.cut);
         let left = setting.inputs.symbols.len().saturating_sub(given);
-        checker.expect_number(setting.way, "left of the symbol file", left, seen.symbols_left)?;
+        checker.expect_number(
+            setting.way,
+            "left of the symbol file",
+            left,
+            seen.symbols_left,
+        )?;
     }
     checker.expect_whole(&setting.with(Change::SymbolsFail(calls)))?;
     Ok(())
@@ -94,7 +104,12 @@ fn sweep_room(checker: &mut Checker, setting: &Setting<'_>) -> Result<()> {
         let left = script.bytes.len().saturating_sub(script.taken_at(room));
         checker.expect_number(setting.way, "left of the script", left, seen.script_left)?;
         let left = setting.symbols_left;
-        checker.expect_number(setting.way, "left of the symbol file", left, seen.symbols_left)?;
+        checker.expect_number(
+            setting.way,
+            "left of the symbol file",
+            left,
+            seen.symbols_left,
+        )?;
     }
     checker.expect_whole(&setting.with(Change::Room(text.len() as u64)))?;
     Ok(())
