@@ -9,7 +9,10 @@ pub(crate) struct Line<'a> {
 }
 
 /// The blocks of a file: lines between empty ones, without those that begin with `#`.
-pub(crate) fn blocks_of<'a>(alloc: Global, file: &'a str) -> Result<Vec<Vec<Line<'a>>>, AllocError> {
+pub(crate) fn blocks_of<'a>(
+    alloc: Global,
+    file: &'a str,
+) -> Result<Vec<Vec<Line<'a>>>, AllocError> {
     let mut blocks = Vec::new(alloc);
     let mut block = Vec::new(alloc);
     for (place, text) in file.lines().enumerate() {

@@ -100,7 +100,19 @@ fn check_cut(
     if case.is_each {
         for (place, line) in case.lines.iter().enumerate() {
             let line_number = place.saturating_add(1);
-            check_line(alloc, checker, case, inputs, (line, Way { line: line_number, ..way }))?;
+            check_line(
+                alloc,
+                checker,
+                case,
+                inputs,
+                (
+                    line,
+                    Way {
+                        line: line_number,
+                        ..way
+                    },
+                ),
+            )?;
         }
     }
     Ok(())
@@ -124,12 +136,7 @@ fn check_line(
 }
 
 // How a script is run in a way, and what is wanted of it.
-fn setting_of<'a>(
-    case: &Case,
-    inputs: Inputs<'a>,
-    script: &'a Script,
-    way: Way,
-) -> Setting<'a> {
+fn setting_of<'a>(case: &Case, inputs: Inputs<'a>, script: &'a Script, way: Way) -> Setting<'a> {
     let mut plan = case.plan;
     plan.cut = way.cut;
     let unread = match case.status {

@@ -22,10 +22,11 @@ pub(crate) struct Setting<'a> {
 impl<'a> Setting<'a> {
     /// The same with a change.
     pub(crate) fn with(&self, change: Change) -> Setting<'a> {
-        let mut setting = *self;
-        setting.plan = change.on(self.plan);
-        setting.way.change = change;
-        setting
+        Setting {
+            plan: change.on(self.plan),
+            way: self.way.with(change),
+            ..*self
+        }
     }
 }
 

@@ -1,7 +1,7 @@
 //! The image of a case: a raw file or LiME ranges, zero but for what is put into it.
 use crate::escapes::bytes_of;
-use crate::numbers::{first_word, number_of, size_of, words_of};
-use anyhow::{Context, Result, bail, ensure};
+use crate::numbers::{first_word, number_of, size_of};
+use anyhow::{Context, Result, ensure};
 use std::alloc::Global;
 
 /// The most bytes that a file may come to.
@@ -42,11 +42,11 @@ impl Image {
             "range" => self.add_words(rest)?,
             "ranges" => self.add_many(rest)?,
             "u64" => {
-                let [at, number] = words_of::<2>(rest)?;
+                let (at, number) = first_word(rest);
                 self.put(number_of(at)?, &number_of(number)?.to_le_bytes())?;
             }
             "u32" => {
-                let [at, number] = words_of::<2>(rest)?;
+                let (at, number) = first_word(rest);
                 let number = u32::try_from(number_of(number)?).ok().context("no u32")?;
                 self.put(number_of(at)?, &number.to_le_bytes())?;
             }
@@ -89,7 +89,8 @@ impl Image {
 
     // Adds a header of LiME, version 1, and so many zeros behind it.
     fn add(&mut self, first: u64, last: u64, kept: usize) -> Result<()> {
-        self.file.extend_from_slice(&[0x45, 0x4d, 0x69, 0x4c, 1, 0, 0, 0])?;
+        self.file
+            .extend_from_slice(&[0x45, 0x4d, 0x69, 0x4c, 1, 0, 0, 0])?;
         self.file.extend_from_slice(&first.to_le_bytes())?;
         self.file.extend_from_slice(&last.to_le_bytes())?;
         self.file.extend_from_slice(&[0; 8])?;
@@ -103,7 +104,8 @@ impl Image {
     }
 
     fn add_many(&mut self, rest: &str) -> Result<()> {
-        let [count, first, step] = words_of::<3>(rest)?;
+        let (count, behind) = first_word(rest);
+        let (first, step) = first_word(behind);
         let (first, step) = (number_of(first)?, number_of(step)?);
         for number in 0..number_of(count)? {
             let at = first.saturating_add(number.saturating_mul(step));

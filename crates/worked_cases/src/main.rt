@@ -24,10 +24,9 @@ use crate::numbers::first_word;
 use crate::settings::case_of;
 use anyhow::{Context, Result, bail};
 use std::alloc::Global;
-use std::env;
-use std::fs;
 use std::process::ExitCode;
 use std::rt::Runtime;
+use std::{env, fs};
 
 /// What was found in the files so far.
 #[derive(Clone, Copy)]

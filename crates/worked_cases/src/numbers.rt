@@ -1,5 +1,5 @@
 //! Numbers and words of a line of a case file.
-use anyhow::{Context, Result, bail};
+use anyhow::{Context, Result};
 
 /// A number: decimal, or hexadecimal behind `0x`.
 pub(crate) fn number_of(word: &str) -> Result<u64> {
@@ -17,20 +17,4 @@ pub(crate) fn size_of(word: &str) -> Result<usize> {
 /// The first word of a text, and what follows the blank behind it.
 pub(crate) fn first_word(text: &str) -> (&str, &str) {
     text.split_once(' ').unwrap_or((text, ""))
-}
-
-/// The words of a text, as many as are wanted.
-pub(crate) fn words_of<const N: usize>(text: &str) -> Result<[&str; N]> {
-    let mut words = [""; N];
-    let mut found = text.split_ascii_whitespace();
-    for word in words.iter_mut() {
-        match found.next() {
-            Some(next) => *word = next,
-            None => bail!("too few words"),
-        }
-    }
-    if found.next().is_some() {
-        bail!("too many words");
-    }
-    Ok(words)
 }

@@ -1,6 +1,6 @@
 //! Many dump rows of one byte, as `255 rows of -- from 0x1008` says them.
-use crate::numbers::{number_of, words_of};
-use anyhow::{Context, Result, bail, ensure};
+use crate::numbers::number_of;
+use anyhow::{Context, Result};
 use std::alloc::Global;
 
 // The character of a byte of a row, of which the hexadecimal digits are given, or `--` where it is absent.
@@ -17,8 +17,8 @@ fn character_of(digits: &str) -> Result<char> {
 
 /// Adds the rows, each of sixteen bytes, that a line names.
 pub(crate) fn add_rows(alloc: Global, text: &mut Vec<u8>, line: &str) -> Result<()> {
-    let [count, rows, of, byte, from, first] = words_of::<6>(line)?;
-    ensure!(rows == "rows" && of == "of" && from == "from", "no rows");
+    let (count, rest) = line.split_once(" rows of ").context("no rows")?;
+    let (byte, first) = rest.split_once(" from ").context("no address")?;
     let mut cells = String::new(alloc);
     let mut characters = String::new(alloc);
     for _ in 0..16 {

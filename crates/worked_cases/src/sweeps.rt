@@ -40,14 +40,19 @@ fn sweep_image(checker: &mut Checker, setting: &Setting<'_>, calls: u64) -> Resu
         let taken = script.bytes.len().saturating_sub(seen.script_left);
         let least = script.text_within(taken.saturating_sub(1));
         if seen.text.len() < least {
-            checker.expect_number(setting.way, "least length of the text", least, seen.text.len())?;
+            checker.expect_number(
+                setting.way,
+                "least length of the text",
+                least,
+                seen.text.len(),
+            )?;
         }
     }
     checker.expect_whole(&setting.with(Change::ImageFails(calls)))?;
     Ok(())
 }
 
-// Nothing is written, and the script is left.
+// Nothing is written, the script is left, and what the earlier calls gave is taken.
 fn sweep_symbols(checker: &mut Checker, setting: &Setting<'_>, calls: u64) -> Result<()> {
     for call in 0..calls {
         let setting = setting.with(Change::SymbolsFail(call));
@@ -56,6 +61,14 @@ fn sweep_symbols(checker: &mut Checker, setting: &Setting<'_>, calls: u64) -> Re
         checker.expect_text(setting.way, b"", &seen.text)?;
         let left = setting.script.bytes.len();
         checker.expect_number(setting.way, "left of the script", left, seen.script_left)?;
+        let given = (call as usize).saturating_mul(setting.plan.cut);
+        let left = setting.inputs.symbols.len().saturating_sub(given);
+        checker.expect_number(
+            setting.way,
+            "left of the symbol file",
+            left,
+            seen.symbols_left,
+        )?;
     }
     checker.expect_whole(&setting.with(Change::SymbolsFail(calls)))?;
     Ok(())
@@ -78,15 +91,25 @@ fn sweep_script(checker: &mut Checker, setting: &Setting<'_>, calls: u64) -> Res
     Ok(())
 }
 
-// As much is written as there is room for.
+// As much is written as there is room for, and no line is taken behind the one whose text has no room.
 fn sweep_room(checker: &mut Checker, setting: &Setting<'_>) -> Result<()> {
-    let text = &setting.script.text;
+    let script = setting.script;
+    let text = &script.text;
     for room in 0..text.len() {
         let setting = setting.with(Change::Room(room as u64));
         let seen = checker.run(&setting)?;
         expect_status(checker, &setting, &seen, 8)?;
         let text = text.get(..room).unwrap_or_default();
         checker.expect_text(setting.way, text, &seen.text)?;
+        let left = script.bytes.len().saturating_sub(script.taken_at(room));
+        checker.expect_number(setting.way, "left of the script", left, seen.script_left)?;
+        let left = setting.symbols_left;
+        checker.expect_number(
+            setting.way,
+            "left of the symbol file",
+            left,
+            seen.symbols_left,
+        )?;
     }
     checker.expect_whole(&setting.with(Change::Room(text.len() as u64)))?;
     Ok(())

@@ -51,6 +51,13 @@ pub(crate) struct Way {
     pub(crate) change: Change,
 }
 
+impl Way {
+    /// The same with a change.
+    pub(crate) fn with(self, change: Change) -> Way {
+        Way { change, ..self }
+    }
+}
+
 impl fmt::Display for Way {
     fn fmt<W: fmt::Write>(&self, f: &mut fmt::Formatter<W>) -> fmt::Result {
         let (value, line, cut, change) = (self.value, self.line, self.cut, self.change);
