@@ -104,10 +104,12 @@ fn paths_and_pointers(rt: HostRuntime) -> Result<(), Fail> {
     let refusal = resolve(&table, &kinds, &path).err();
     let told = refusal.map(|refusal| (refusal.index, refusal.fault));
     assert_eq!(rt; told, Some((2, TypeFault::NotCompound)));
-    let probe = read(alloc, PROBE)?;
-    let pointer = TypeRef::Pointer(Boxed::new(alloc, kinds)?);
-    assert_eq!(rt; size_of(&probe, &pointer), Ok(8));
-    let pointed = member(&probe, &pointer, b"a").err();
+    let table = read(alloc, PROBE)?;
+    let probe = TypeRef::Class(name(alloc, "probe")?);
+    assert_eq!(rt; size_of(&table, &probe), Ok(8));
+    let pointer = TypeRef::Pointer(Boxed::new(alloc, probe)?);
+    assert_eq!(rt; size_of(&table, &pointer), Ok(8));
+    let pointed = member(&table, &pointer, b"a").err();
     assert_eq!(rt; pointed, Some(TypeFault::NotCompound));
     Ok(())
 }
