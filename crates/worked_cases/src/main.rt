@@ -86,6 +86,7 @@ fn run_file<R: Runtime<A = Global>>(
     counts: &mut Counts,
 ) -> Result<()> {
     let text = fs::read_to_string(rt, path)?;
+    library.enter(rt.alloc(), path)?;
     let before = counts.cases;
     for block in &blocks_of(rt.alloc(), text.as_str())? {
         run_block(rt, library, block, counts)?;

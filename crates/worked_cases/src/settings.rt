@@ -8,7 +8,6 @@ use crate::numbers::{first_word, number_of, size_of};
 use crate::rows::add_rows;
 use anyhow::{Context, Result, bail, ensure};
 use std::alloc::Global;
-use std::fs;
 use std::rt::Files;
 
 /// Reads a case. Symbol files and named images come from beside it.
@@ -103,7 +102,7 @@ fn set<R: Files + Alloc<A = Global>>(
         return Ok(());
     }
     if word == "symbol-file" {
-        case.symbols = Some(fs::read(rt, rest).context(format_args!("{rest}"))?);
+        case.symbols = Some(library.file(rt, rest)?);
         return Ok(());
     }
     if set_input(alloc, case, word, rest)? || set_run(case, word, rest)? {
