@@ -6,5 +6,5 @@ mod text;
 mod types;
 
 pub use number::append_number;
-pub use text::{append_text, text_cell};
+pub use text::{append_quoted, append_text, text_cell};
 pub use types::{append_type, type_cell};

@@ -1,5 +1,6 @@
 //! The texts of types.
-ghost use Rattle.std.specs.Prelude.{◌≡◌, ◌++◌, OnOk, IfOk};
+ghost use Rattle.std.specs.Prelude.{◌≡◌, ◌++◌, OnOk, OnErr, IfOk};
+ghost use Rattle.std.specs.Io.{StartsWith};
 ghost use Rattle.cell_text.specs.TextCell.{text_cell};
 ghost use Rattle.cell_text.specs.TypeCell.{type_cell};
 
@@ -11,7 +12,8 @@ use std::alloc::{AllocError, Global};
 
 // Appends a word and a name.
 fn append_named(text: &mut Vec<u8>, word: &[u8], name: &Name) -> Result<(), AllocError>
-    ensures { OnOk result (text.new.items ≡ text.old.items ++ word.now ++ text_cell name.now) }
+    ensures ok { OnOk result (text.new.items ≡ text.old.items ++ word.now ++ text_cell name.now) }
+    ensures err { OnErr result (StartsWith text.new.items text.old.items) }
 {
     text.extend_from_slice(word)?;
     append_text(text, name.items())
@@ -20,9 +22,11 @@ fn append_named(text: &mut Vec<u8>, word: &[u8], name: &Name) -> Result<(), Allo
 /// Appends a type: a base type its name; a pointer the type that it points to and `*`; an array the type of its
 /// elements and `[N]`; `struct`, `union`, `class` or `enum` and the name; a bit field its type, `:POSITION` and
 /// `:LENGTH`; `function`. Names are written as `append_text` does.
+/// When out of memory, what stood in the text still stands at its front.
 #[tactic(auto, unfolding(crate::specs::TypeCell::type_cell))]
 pub fn append_type(text: &mut Vec<u8>, of: &TypeRef) -> Result<(), AllocError>
-    ensures { OnOk result (text.new.items ≡ text.old.items ++ type_cell of.now) }
+    ensures ok { OnOk result (text.new.items ≡ text.old.items ++ type_cell of.now) }
+    ensures err { OnErr result (StartsWith text.new.items text.old.items) }
 {
     match of {
         TypeRef::Base(name) => append_text(text, name.items()),

@@ -2,6 +2,7 @@
 use Rattle.std.specs.Prelude.{ℕ, ◌-◌, ◌^◌, nat_lt, if◌then◌else◌, List, [], ◌∷◌, length, Result, Ok, Err}
 use Rattle.command_words.specs.Answer.{◌>>=◌}
 use Rattle.command_words.specs.Hex.{needle_of}
+use Rattle.command_words.specs.Limits.{most_read, most_dump, most_path}
 use Rattle.command_words.specs.Name.{name_of, type_of}
 use Rattle.command_words.specs.Number.{number_of}
 use Rattle.command_words.specs.Place.{space_of, address_of, is_stretch}
@@ -11,7 +12,6 @@ use Rattle.command_words.specs.declared.fault.LineFault.{LineFault}
 use Rattle.command_words.specs.declared.fault.LineFault.TheVariants.{Words, Range}
 use Rattle.command_words.specs.declared.verb.Verb.{Verb}
 use Rattle.command_words.specs.declared.verb.Verb.TheVariants as verb
-use Rattle.command_words.specs.declared.words.TheConstants.{MAX_READ, MAX_DUMP, MAX_PATH}
 
 -- a value that no words follow; any word is one too many
 abbrev pub of_none : {A : Type 0} → A → List (List ℕ) → Result A LineFault
@@ -44,7 +44,7 @@ read_of space at len = do
   space ← space_of space
   at ← address_of at
   len ← number_of len
-  if is_stretch MAX_READ at len then Ok (Read space at len) else Err Range
+  if is_stretch most_read at len then Ok (Read space at len) else Err Range
 
 -- `dump SPACE ADDR LEN`
 abbrev pub dump_of : List ℕ → List ℕ → List ℕ → Result Command LineFault
@@ -52,7 +52,7 @@ dump_of space at len = do
   space ← space_of space
   at ← address_of at
   len ← number_of len
-  if is_stretch MAX_DUMP at len then Ok (Dump space at len) else Err Range
+  if is_stretch most_dump at len then Ok (Dump space at len) else Err Range
 
 -- `type SPACE ADDR TYPE`
 abbrev pub show_of : List ℕ → List ℕ → List ℕ → Result Command LineFault
@@ -60,7 +60,7 @@ show_of space at word = do
   space ← space_of space
   at ← address_of at
   names ← type_of word
-  if nat_lt MAX_PATH (length names.1) then Err Range else Ok (Show space at names.0 names.1)
+  if nat_lt most_path (length names.1) then Err Range else Ok (Show space at names.0 names.1)
 
 -- `translate SPACE ADDR`
 abbrev pub translate_of : List ℕ → List ℕ → Result Command LineFault

@@ -2,12 +2,12 @@
 use Rattle.std.specs.Prelude.{ℕ, ◌-◌, Bool, ◌||◌, ◌==◌, nat_lt, if◌then◌else◌, List, [], ◌∷◌, length, take, filter, slice_index, Option, None, Some, Result, Ok, Err}
 use Rattle.std.specs.List.{slice_split}
 use Rattle.command_words.specs.Command.{command_of_verb}
+use Rattle.command_words.specs.Limits.{most_line}
 use Rattle.command_words.specs.Verb.{verb_of}
 use Rattle.command_words.specs.declared.command.Command.{Command}
 use Rattle.command_words.specs.declared.command.Command.TheVariants.{Nothing}
 use Rattle.command_words.specs.declared.fault.LineFault.{LineFault}
 use Rattle.command_words.specs.declared.fault.LineFault.TheVariants.{TooLong, Unknown}
-use Rattle.command_words.specs.declared.line.TheConstants.{MAX_LINE}
 use Rattle.command_words.specs.declared.verb.Verb.{Verb}
 
 -- a blank or a tab
@@ -38,4 +38,4 @@ command_of_words (first ∷ rest) = if is_comment first then Ok Nothing else com
 
 -- what a line asks for, or its first fault; one that is too long says nothing else, whatever stands in it
 abbrev pub command_of : List ℕ → Result Command LineFault
-command_of line = if nat_lt MAX_LINE (length line) then Err TooLong else command_of_words (words_of (trimmed line))
+command_of line = if nat_lt most_line (length line) then Err TooLong else command_of_words (words_of (trimmed line))

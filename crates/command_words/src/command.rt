@@ -89,7 +89,7 @@ pub enum Command {
         space: SpaceWord,
         at: AddrWord,
     },
-    /// The places of the needle, at least one byte, among the bytes from an address on, at least one.
+    /// The places of the needle, 1 to 2,048 bytes, among the bytes from an address on, at least one.
     Scan {
         space: SpaceWord,
         at: AddrWord,

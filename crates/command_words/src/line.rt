@@ -10,7 +10,7 @@ use crate::words::command_of_verb;
 use crate::{Command, LineFault};
 use std::alloc::{AllocError, Global};
 
-// The most bytes of a line, its carriage return counted.
+// The most bytes of a line, its carriage return counted: `most_line` of the definitions.
 pub(crate) const MAX_LINE: usize = 4096;
 
 fn trimmed(line: &[u8]) -> &[u8]

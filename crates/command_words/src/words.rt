@@ -14,13 +14,13 @@ use crate::{Command, LineFault};
 use layer_base::Name;
 use std::alloc::Global;
 
-// The most bytes that one `read` prints.
+// The most bytes that one `read` prints: `most_read` of the definitions.
 pub(crate) const MAX_READ: u64 = 1_048_576;
 
-// The most bytes that one `dump` writes.
+// The most bytes that one `dump` writes: `most_dump`.
 pub(crate) const MAX_DUMP: u64 = 68_719_476_736;
 
-// The most names of a path, behind that of its type.
+// The most names of a path, behind that of its type: `most_path`.
 pub(crate) const MAX_PATH: usize = 256;
 
 // A command that no words follow.

@@ -1,9 +1,8 @@
 -- What a device shows under its reading.
-use Rattle.std.specs.Prelude.{ℕ, ◌-◌, ◌^◌, List, Option, option_map}
-use Rattle.layer_base.specs.Ranges.{reach}
+use Rattle.std.specs.Prelude.{ℕ, List, Option, option_map}
 use Rattle.layer_base.specs.Reading.{view_of}
 use Rattle.layer_base.specs.View.{View}
-use Rattle.layer_base.specs.View.View.{File, Ranges}
+use Rattle.layer_base.specs.View.View.{File}
 use Rattle.layer_base.specs.declared.layer.Kind.{Kind}
 use Rattle.layer_base.specs.declared.layer.Kind.TheVariants as kinds
 use Rattle.layer_base.specs.declared.reading.Reading.{Reading}
@@ -16,9 +15,3 @@ shown reading held = option_map (λ bytes. view_of reading (File bytes)) held
 abbrev pub kind_of : Reading → Kind
 kind_of readings.Raw = kinds.File
 kind_of (readings.Ranges segments) = kinds.Lime
-
--- The last address of a hole. In a file it is the last of all. In ranges it is the one before the next range begins,
--- and no further than the range that shows the address.
-abbrev pub reach_of_view : View → ℕ → ℕ
-reach_of_view (File bytes) at = 2 ^ 64 - 1
-reach_of_view (Ranges below segments) at = reach segments at

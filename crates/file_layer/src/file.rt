@@ -1,11 +1,10 @@
 //! A device, shown as it is or as the container that it holds.
-ghost use Rattle.std.specs.Prelude.{◌≡◌, ◌<◌, length, option_map, IsErr, IfOk, IfSome};
+ghost use Rattle.std.specs.Prelude.{◌≡◌, ◌-◌, ◌^◌, ◌<◌, length, option_map, IsErr, IfOk, IfSome};
 ghost use Rattle.layer_base.specs.Counts.{HasCause, next_count};
 ghost use Rattle.layer_base.specs.Run.{IsWithin, IsTrueOf};
-ghost use Rattle.layer_base.specs.Reading.{ReachesTo};
+ghost use Rattle.layer_base.specs.Reading.{reach_of, ReachesTo};
 ghost use Rattle.layer_base.specs.View.{physical};
 ghost use Rattle.layer_base.specs.View.View.{File};
-ghost use Rattle.file_layer.specs.Shown.{shown, kind_of, reach_of_view};
 
 use layer_base::{Device, DeviceFailed, Kind, Layer, Reading, Run, Why, run_of_reading};
 use lime_layer::lime_of;
@@ -74,13 +73,14 @@ impl<D: Device + Drop> Layer for FileLayer<D> {
     fn run_at(&mut self, at: u64, buf: &mut [u8]) -> Result<Run, DeviceFailed>
         requires { 0 < length buf.old }
         ensures within { IfOk result (IsWithin at (length buf.old)) }
-        ensures run { IfSome (shown self.old.reading (D.held self.old.device)) (λ view. IfOk result (IsTrueOf (physical view) at buf.new)) }
-        ensures same_view { shown self.new.reading (D.held self.new.device) ≡ shown self.old.reading (D.held self.old.device) }
-        ensures same_kind { kind_of self.new.reading ≡ kind_of self.old.reading }
-        ensures calls { self.new.calls ≡ next_count self.old.calls }
-        ensures cause { HasCause (D.faults self.old.device) (D.faults self.new.device) (IsErr result) }
+        ensures run { IfSome (⟦<Self as Layer>⟧.view self.old) (λ view. IfOk result (IsTrueOf (physical view) at buf.new)) }
+        ensures same_view { ⟦<Self as Layer>⟧.view self.new ≡ ⟦<Self as Layer>⟧.view self.old }
+        ensures same_kind { ⟦<Self as Layer>⟧.kind self.new ≡ ⟦<Self as Layer>⟧.kind self.old }
+        ensures calls { ⟦<Self as Layer>⟧.calls self.new ≡ next_count (⟦<Self as Layer>⟧.calls self.old) }
+        ensures cause { HasCause (⟦<Self as Layer>⟧.faults self.old) (⟦<Self as Layer>⟧.faults self.new) (IsErr result) }
         // How far a hole reaches.
-        ensures reach { IfSome (shown self.old.reading (D.held self.old.device)) (λ view. IfOk result (ReachesTo (reach_of_view view at))) }
+        ensures reach { IfSome (⟦<Self as Layer>⟧.view self.old) (λ view. IfOk result (ReachesTo (reach_of view at))) }
+        ensures raw_reach { ⟦<Self as Layer>⟧.kind self.old ≡ Kind.File → IfOk result (ReachesTo (2 ^ 64 - 1)) }
     {
         self.calls = self.calls.saturating_add(1);
         run_of_reading(&mut self.device, &self.reading, at, buf)

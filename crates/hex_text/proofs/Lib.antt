@@ -1,1 +1,2 @@
 pub mod DumpRows
+pub mod Fronts

@@ -1,5 +1,6 @@
 //! The rows of a dump: an address, sixteen bytes in hexadecimal, and the bytes as characters.
-ghost use Rattle.std.specs.Prelude.{◌≡◌, ◌+◌, ◌^◌, ◌<◌, ◌≤◌, ◌∷◌, [], ◌++◌, map, length, codes, OnOk, IfOk};
+ghost use Rattle.std.specs.Prelude.{◌≡◌, ◌+◌, ◌^◌, ◌<◌, ◌≤◌, ◌∷◌, [], ◌++◌, map, length, codes, OnOk, OnErr, IfOk};
+ghost use Rattle.std.specs.Io.{StartsWith};
 ghost use Rattle.std.specs.List.{flat_map};
 ghost use Rattle.hex_text.specs.DumpRow.{hex_digit, hex_digits, address_cell, byte_cell, character, dump_row, dump_text};
 
@@ -18,9 +19,11 @@ fn hex_digit(value: u8) -> u8
 }
 
 /// Appends the last `digits` hexadecimal digits of a value, in lower case, the most significant first.
+/// When out of memory, what stood in the text still stands at its front.
 pub fn append_hex(text: &mut Vec<u8>, digits: u32, value: u64) -> Result<(), AllocError>
     requires { digits ≤ 16 }
-    ensures { OnOk result (text.new.items ≡ text.old.items ++ hex_digits digits value) }
+    ensures ok { OnOk result (text.new.items ≡ text.old.items ++ hex_digits digits value) }
+    ensures err { OnErr result (StartsWith text.new.items text.old.items) }
 {
     for done in 0..digits {
         let place = digits - 1 - done;
@@ -29,16 +32,18 @@ pub fn append_hex(text: &mut Vec<u8>, digits: u32, value: u64) -> Result<(), All
     Ok(())
 }
 
-/// Appends an address: `0x` and sixteen digits.
+/// Appends an address: `0x` and sixteen digits. When out of memory, what stood in the text still stands at its front.
 pub fn append_address(text: &mut Vec<u8>, at: u64) -> Result<(), AllocError>
-    ensures { OnOk result (text.new.items ≡ text.old.items ++ address_cell at) }
+    ensures ok { OnOk result (text.new.items ≡ text.old.items ++ address_cell at) }
+    ensures err { OnErr result (StartsWith text.new.items text.old.items) }
 {
     text.extend_from_slice(b"0x")?;
     append_hex(text, 16, at)
 }
 
 fn append_cell(text: &mut Vec<u8>, cell: Option<u8>) -> Result<(), AllocError>
-    ensures { OnOk result (text.new.items ≡ text.old.items ++ byte_cell cell) }
+    ensures ok { OnOk result (text.new.items ≡ text.old.items ++ byte_cell cell) }
+    ensures err { OnErr result (StartsWith text.new.items text.old.items) }
 {
     match cell {
         None => Ok(text.extend_from_slice(b"--")?),
@@ -58,7 +63,8 @@ fn character(cell: Option<u8>) -> u8
 
 // Appends a row without its newline.
 fn append_row(text: &mut Vec<u8>, at: u64, cells: &[Option<u8>]) -> Result<(), AllocError>
-    ensures { OnOk result (text.new.items ≡ text.old.items ++ dump_row at cells.now) }
+    ensures ok { OnOk result (text.new.items ≡ text.old.items ++ dump_row at cells.now) }
+    ensures err { OnErr result (StartsWith text.new.items text.old.items) }
 {
     append_address(text, at)?;
     text.push(b' ')?;
@@ -70,7 +76,8 @@ fn append_row(text: &mut Vec<u8>, at: u64, cells: &[Option<u8>]) -> Result<(), A
 }
 
 fn append_cells(text: &mut Vec<u8>, cells: &[Option<u8>]) -> Result<(), AllocError>
-    ensures { OnOk result (text.new.items ≡ text.old.items ++ flat_map (λ cell. codes " " ++ byte_cell cell) cells.now) }
+    ensures ok { OnOk result (text.new.items ≡ text.old.items ++ flat_map (λ cell. codes " " ++ byte_cell cell) cells.now) }
+    ensures err { OnErr result (StartsWith text.new.items text.old.items) }
 {
     for cell in cells {
         text.push(b' ')?;
@@ -80,7 +87,8 @@ fn append_cells(text: &mut Vec<u8>, cells: &[Option<u8>]) -> Result<(), AllocErr
 }
 
 fn append_characters(text: &mut Vec<u8>, cells: &[Option<u8>]) -> Result<(), AllocError>
-    ensures { OnOk result (text.new.items ≡ text.old.items ++ map character cells.now) }
+    ensures ok { OnOk result (text.new.items ≡ text.old.items ++ map character cells.now) }
+    ensures err { OnErr result (StartsWith text.new.items text.old.items) }
 {
     for cell in cells {
         text.push(character(*cell))?;
@@ -88,10 +96,12 @@ fn append_characters(text: &mut Vec<u8>, cells: &[Option<u8>]) -> Result<(), All
     Ok(())
 }
 
-/// Appends the rows of the bytes from `at` on, each with its newline.
+/// Appends the rows of the bytes from `at` on, each with its newline. When out of memory, what stood in the text still
+/// stands at its front.
 pub fn append_rows(text: &mut Vec<u8>, at: u64, cells: &[Option<u8>]) -> Result<(), AllocError>
     requires { at + length cells.now ≤ 2 ^ 64 }
-    ensures { OnOk result (text.new.items ≡ text.old.items ++ dump_text at cells.now) }
+    ensures ok { OnOk result (text.new.items ≡ text.old.items ++ dump_text at cells.now) }
+    ensures err { OnErr result (StartsWith text.new.items text.old.items) }
 {
     let mut start = 0;
     while start < cells.len() {

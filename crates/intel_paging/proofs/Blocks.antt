@@ -7,16 +7,17 @@ use Rattle.std.proofs.lemmas.Bool.{cases_lt}
 use Rattle.std.proofs.lemmas.Bool.Decides.{nat_tests}
 use Rattle.std.proofs.lemmas.Nat.{div-mul-add, pow-add}
 use Rattle.layer_base.specs.AddressSpace.{AddressSpace}
+use Rattle.layer_base.specs.Mapped.{block_around, block_size, Holds, IsAligned}
 use Rattle.layer_base.specs.Space.{page_address}
 use Rattle.layer_base.specs.declared.space.Levels.{Levels}
 use Rattle.layer_base.specs.declared.space.Levels.TheVariants.{Four, Five}
 use Rattle.layer_base.specs.declared.space.Mapped.{Mapped}
 use Rattle.layer_base.specs.declared.space.Space.{Space}
 use Rattle.layer_base.specs.declared.space.Space.TheVariants.{Phys, Paged}
-use Rattle.intel_paging.specs.Block.{block_around, block_by, block_from, block_of, non_canonical}
+use Rattle.intel_paging.specs.Block.{block_by, block_from, block_of, non_canonical}
 use Rattle.intel_paging.specs.Entry.{entry_of}
-use Rattle.intel_paging.specs.Paging.{block_size, count_of, entry_address, is_canonical}
-use Rattle.intel_paging.specs.Walk.{Holds, IsAligned, IsBlock}
+use Rattle.intel_paging.specs.Paging.{count_of, entry_address, is_canonical}
+use Rattle.intel_paging.specs.Walk.{IsBlock}
 use Rattle.intel_paging.specs.Word.{word}
 use Rattle.intel_paging.specs.declared.entry.Entry.{Entry}
 use Rattle.intel_paging.specs.declared.entry.Entry.TheVariants.{Hole, Frame, Table}

@@ -1,4 +1,4 @@
 pub mod Blocks
-pub mod Filling
 pub mod SmallTables
 pub mod Walking
+pub mod Words

@@ -3,15 +3,16 @@ use Rattle.std.proofs.Common.{◌≡◌, ℕ, ◌-◌, ◌^◌, ◌≤◌, true,
 use Rattle.std.specs.Option.{IfSome}
 use Rattle.std.specs.Result.{IfOk}
 use Rattle.std.proofs.lemmas.Result.{IfOk-weaker}
+use Rattle.layer_base.specs.Mapped.{block_around, block_size}
 use Rattle.layer_base.specs.Space.{page_address}
 use Rattle.layer_base.specs.View.{View, physical}
 use Rattle.layer_base.specs.declared.space.Levels.{Levels}
 use Rattle.layer_base.specs.declared.space.Mapped.{Mapped}
 use Rattle.layer_base.specs.declared.space.Space.{Space}
 use Rattle.layer_base.specs.declared.space.Space.TheVariants.{Phys, Paged}
-use Rattle.intel_paging.specs.Block.{block_around, block_by, block_from, non_canonical}
+use Rattle.intel_paging.specs.Block.{block_by, block_from, non_canonical}
 use Rattle.intel_paging.specs.Entry.{entry_of}
-use Rattle.intel_paging.specs.Paging.{block_size, count_of, entry_address, is_canonical}
+use Rattle.intel_paging.specs.Paging.{count_of, entry_address, is_canonical}
 use Rattle.intel_paging.specs.Walk.{IsBlock}
 use Rattle.intel_paging.specs.Word.{word}
 use Rattle.intel_paging.specs.declared.entry.Entry.{Entry}

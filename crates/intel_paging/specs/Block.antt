@@ -1,20 +1,17 @@
 -- What an address of a space is mapped to.
-use Rattle.std.specs.Prelude.{ℕ, zero, suc, ◌+◌, ◌-◌, ◌*◌, ◌/◌, ◌^◌, if◌then◌else◌, Option, None, Some, option_map}
+use Rattle.std.specs.Prelude.{ℕ, zero, suc, ◌+◌, ◌-◌, ◌^◌, if◌then◌else◌, Option, None, Some, option_map}
 use Rattle.layer_base.specs.AddressSpace.{AddressSpace}
+use Rattle.layer_base.specs.Mapped.{block_around, block_size}
 use Rattle.layer_base.specs.Space.{page_address}
 use Rattle.layer_base.specs.declared.space.Levels.{Levels}
 use Rattle.layer_base.specs.declared.space.Mapped.{Mapped}
 use Rattle.layer_base.specs.declared.space.Space.{Space}
 use Rattle.layer_base.specs.declared.space.Space.TheVariants.{Phys, Paged}
 use Rattle.intel_paging.specs.Entry.{entry_of}
-use Rattle.intel_paging.specs.Paging.{count_of, block_size, half_size, is_canonical, entry_address}
+use Rattle.intel_paging.specs.Paging.{count_of, half_size, is_canonical, entry_address}
 use Rattle.intel_paging.specs.Word.{word}
 use Rattle.intel_paging.specs.declared.entry.Entry.{Entry}
 use Rattle.intel_paging.specs.declared.entry.Entry.TheVariants.{Hole, Frame, Table}
-
--- the aligned block of a size around an address
-abbrev pub block_around : ℕ → ℕ → Option ℕ → Mapped
-block_around size a to = record { first = a / size * size; last = a / size * size + (size - 1); to = to }
 
 -- what an entry of a level maps around an address; where it names a table, what that maps
 abbrev pub block_by : ℕ → ℕ → Entry → (ℕ → Mapped) → Mapped

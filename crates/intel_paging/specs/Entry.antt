@@ -1,7 +1,7 @@
 -- What an entry of a table says. Reserved bits and access rights say nothing here.
 use Rattle.std.specs.Prelude.{ℕ, ◌^◌, ◌<◌, ◌≤◌, ◌/◌, ◌%◌, Bool, ◌&&◌, ◌||◌, ◌==◌, if◌then◌else◌, Option, None, Some}
+use Rattle.layer_base.specs.Mapped.{block_size}
 use Rattle.layer_base.specs.Space.{frame_of, page_address}
-use Rattle.intel_paging.specs.Paging.{block_size}
 use Rattle.intel_paging.specs.declared.entry.Entry.{Entry}
 use Rattle.intel_paging.specs.declared.entry.Entry.TheVariants.{Hole, Frame, Table}
 

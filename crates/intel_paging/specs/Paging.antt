@@ -1,15 +1,12 @@
 -- Which bits of an address lead where: 4-level and 5-level paging, Intel SDM, volume 3, "Paging".
 use Rattle.std.specs.Prelude.{ℕ, ◌+◌, ◌-◌, ◌*◌, ◌/◌, ◌%◌, ◌^◌, Bool, ◌||◌, nat_le, nat_lt}
+use Rattle.layer_base.specs.Mapped.{block_size}
 use Rattle.layer_base.specs.declared.space.Levels.{Levels}
 use Rattle.layer_base.specs.declared.space.Levels.TheVariants.{Four, Five}
 
 abbrev pub count_of : Levels → ℕ
 count_of Four = 4
 count_of Five = 5
-
--- How many addresses one entry of a table is for: 4 KiB at level 1, and 512 times as many at each level above.
-abbrev pub block_size : ℕ → ℕ
-block_size level = 2 ^ (12 + 9 * (level - 1))
 
 -- half as many addresses as the tables map
 abbrev pub half_size : Levels → ℕ

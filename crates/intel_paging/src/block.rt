@@ -1,18 +1,9 @@
 //! The blocks that the entries of tables are for.
 ghost use Rattle.std.specs.Prelude.{◌≡◌, ◌≤◌, ◌<◌, ◌^◌};
-ghost use Rattle.intel_paging.specs.Block.{block_around};
-ghost use Rattle.intel_paging.specs.Paging.{block_size, entry_address};
+ghost use Rattle.layer_base.specs.Mapped.{block_around, block_size};
+ghost use Rattle.intel_paging.specs.Paging.{entry_address};
 
-use layer_base::Mapped;
-
-/// How many addresses one entry of a table of a level is for.
-pub(crate) fn block_size(level: u32) -> u64
-    requires least { 1 ≤ level }
-    requires most { level ≤ 5 }
-    ensures { result ≡ block_size level }
-{
-    1 << (12 + 9 * (level - 1))
-}
+use layer_base::{Mapped, block_size};
 
 /// The block of an address's entry in a table of a level.
 pub(crate) fn block_around(level: u32, at: u64, to: Option<u64>) -> Mapped

@@ -2,8 +2,7 @@
 ghost use Rattle.std.specs.Prelude.{◌≡◌, ◌≤◌};
 ghost use Rattle.intel_paging.specs.Entry.{IsEntryOf, entry_of, is_present, maps_a_block, present_entry};
 
-use crate::block::block_size;
-use layer_base::{frame_of, page_address};
+use layer_base::{block_size, frame_of, page_address};
 
 /// What an entry of a table says.
 #[derive(Clone, Copy, Debug, PartialEq, Eq)]

@@ -1,13 +1,14 @@
 //! The walk through the tables.
 ghost use Rattle.std.specs.Prelude.{◌≡◌, ◌+◌, ◌-◌, ◌*◌, ◌<◌, ◌≤◌, ◌^◌, true, false, IsErr, IfOk, IfSome};
 ghost use Rattle.layer_base.specs.AddressSpace.{AddressSpace};
+ghost use Rattle.layer_base.specs.Mapped.{Holds, IsAligned};
 ghost use Rattle.layer_base.specs.Counts.{HasCause};
 ghost use Rattle.layer_base.specs.SameLayer.{IsSameLayer};
 ghost use Rattle.layer_base.specs.View.{physical};
 ghost use Rattle.intel_paging.specs.Block.{block_of, block_from};
 ghost use Rattle.intel_paging.specs.Entry.{IsEntryOf, entry_of};
 ghost use Rattle.intel_paging.specs.Paging.{entry_address};
-ghost use Rattle.intel_paging.specs.Walk.{Holds, IsBlock, IsAligned, asks_tables, levels_of};
+ghost use Rattle.intel_paging.specs.Walk.{IsBlock, asks_tables, levels_of};
 ghost use Rattle.intel_paging.specs.Word.{word};
 
 use crate::block::{block_around, entry_address};

@@ -1,25 +1,26 @@
 -- Every table that is read keeps its order.
-use Rattle.std.proofs.Common.{◌≡◌, ◌<◌, ◌^◌, nat_lt, rules, ℕ, ℤ, List, [], ◌∷◌, map, Option, Some, None, option_map, option_and_then, unwrap_or, cond, Bool, true, false, Result, Ok, Err, nat_cmp, codes, refl, ap, subst}
+use Rattle.std.proofs.Common.{◌≡◌, ◌<◌, ◌≤◌, ◌^◌, nat_lt, rules, Equal, is_eq, ℕ, ℤ, List, [], ◌∷◌, map, Option, Some, None, option_map, option_and_then, unwrap_or, cond, Bool, true, false, Result, Ok, Err, nat_cmp, codes, refl, sym, ap, subst, IfSome, ◌∙◌}
 use Rattle.std.specs.BTreeMap.{insert_entry}
 use Rattle.std.specs.BTreeSet.{insert_key}
 use Rattle.std.specs.Cmp.{IsTotalOrder, on_total, then_total, nat_cmp_total, int_cmp_total}
-use Rattle.std.specs.Cmp.Lexicographic.{slice_cmp, nat_list_cmp_total}
+use Rattle.std.specs.Cmp.Lexicographic.{slice_cmp, nat_list_cmp_total, bytes_decides, texts_ties}
 use Rattle.std.specs.List.{AllByRecursion}
 use Rattle.std.specs.List.Sorted.{IsStrictlySortedBy}
 use Rattle.std.specs.Map.{keys_of}
 use Rattle.serde_json.specs.Data.{Data, null, boolean, number, string, array, object, Members, no_members, member}
 use Rattle.serde_json.specs.Find.{as_object, get, get_member}
-use Rattle.isf_reader.proofs.Order.{in_order_inserted, all_inserted, all_values_inserted, keys_in_order_inserted}
-use Rattle.isf_reader.specs.BaseTypes.{base_of}
-use Rattle.isf_reader.specs.Depth.{first_too_deep}
+use Rattle.isf_reader.proofs.Order.{in_order_inserted, all_inserted, keys_in_order_inserted}
+use Rattle.isf_reader.specs.BaseTypes.{base_kind_of, big_of, base_of, size_fits, if_fits}
+use Rattle.isf_reader.specs.Depth.{entry_named, first_too_deep}
 use Rattle.isf_reader.specs.Entry.{with_key, entry_of}
 use Rattle.isf_reader.specs.Enums.{by_value, values_onto, constant_at, constants_in, constants_of, enum_of}
-use Rattle.isf_reader.specs.Json.{given, if_count, natural_of, count_of, count_at, text_at, integer_of}
+use Rattle.isf_reader.specs.Json.{given, if_count, natural_of, count_of, count_at, text_at, flag_at, integer_of}
 use Rattle.isf_reader.specs.Sections.{and_behind, entries_onto, section_in, section_of}
 use Rattle.isf_reader.specs.Symbols.{symbol_of}
-use Rattle.isf_reader.specs.Table.{Sections, in_section, and_then_read, sections_of, file_of, HasFieldsInOrder, HasConstantsInOrder, HasNamesInOrder, IsNear, HasNearFields, IsTable, place_of}
+use Rattle.isf_reader.specs.Table.{Sections, in_section, and_then_read, sections_of, file_of, HasFieldsInOrder, HasConstantsInOrder, HasNamesInOrder, IsNear, HasNearFields, HasBaseSize, HasPointerSize, HasEnumSize, HasUserSize, IsTable, place_of}
 use Rattle.isf_reader.specs.TypeOf.{type_at}
 use Rattle.isf_reader.specs.UserTypes.{Placed, by_offset, flag_or_false, placed_of, fields_onto, field_at, fields_in, fields_of, user_kind_of, user_of}
+use Rattle.isf_reader.specs.declared.base_type.BaseType.{BaseType}
 use Rattle.isf_reader.specs.declared.enum_type.Constant.{Constant}
 use Rattle.isf_reader.specs.declared.enum_type.EnumType.{EnumType}
 use Rattle.isf_reader.specs.declared.refusal.IsfRefusal.{IsfRefusal}
@@ -101,8 +102,8 @@ user_in_order d user h =
 abbrev AreNear : List Field → Type 0
 AreNear = AllByRecursion IsNear
 
-abbrev IsNearPlace : ℕ × List ℕ → Type 0
-IsNearPlace place = place.0 < 2 ^ 32
+abbrev IsNearPlaced : Placed → Type 0
+IsNearPlaced p = (p.0).0 < 2 ^ 32
 
 counted : (n m : ℕ) → if_count n ≡ Some m → m < 2 ^ 32
 counted n m h = go (nat_lt n (2 ^ 32)) refl h
@@ -117,20 +118,20 @@ counted_at key d m h =
     let number = found_before (natural_of value.0) if_count m value.2 in
     counted number.0 m number.2
 
-near_placed : (name : List ℕ) (d : Data) (p : Placed) → placed_of name d ≡ Some p → IsNearPlace p.0
+near_placed : (name : List ℕ) (d : Data) (p : Placed) → placed_of name d ≡ Some p → IsNearPlaced p
 near_placed name d p h =
     let offset = found_before (count_at (codes "offset") d) _ p h in
     let of = found_before (type_at (codes "type") d) _ p offset.2 in
     let anonymous = mapped_before (flag_or_false (given (codes "anonymous") d)) _ p of.2 in
-    subst (λ q. IsNearPlace q.0) anonymous.2 (counted_at (codes "offset") d offset.0 offset.1)
+    subst IsNearPlaced anonymous.2 (counted_at (codes "offset") d offset.0 offset.1)
 
-near_onto : (ms : Members) (found : List Placed) (all : List Placed) → fields_onto found ms ≡ Some all → AllByRecursion IsNearPlace (keys_of found) → AllByRecursion IsNearPlace (keys_of all)
-near_onto no_members found all h near = subst (λ es. AllByRecursion IsNearPlace (keys_of es)) (same_some found all h) near
+near_onto : (ms : Members) (found : List Placed) (all : List Placed) → fields_onto found ms ≡ Some all → AllByRecursion IsNearPlaced found → AllByRecursion IsNearPlaced all
+near_onto no_members found all h near = subst (AllByRecursion IsNearPlaced) (same_some found all h) near
 near_onto (member name d ms) found all h near =
     let p = found_before (placed_of name d) (λ p. fields_onto (insert_entry by_offset found p.0 p.1) ms) all h in
-    near_onto ms _ all p.2 (all_inserted by_offset by_offset_total IsNearPlace found (p.0).0 (p.0).1 near (near_placed name d p.0 p.1))
+    near_onto ms _ all p.2 (all_inserted by_offset IsNearPlaced (λ k l v w tied new old. old) found (p.0).0 (p.0).1 near (near_placed name d p.0 p.1))
 
-near_fields : (all : List Placed) → AllByRecursion IsNearPlace (keys_of all) → AreNear (map field_at all)
+near_fields : (all : List Placed) → AllByRecursion IsNearPlaced all → AreNear (map field_at all)
 near_fields [] h = tt
 near_fields (p ∷ all) h = (h.0, near_fields all h.1)
 
@@ -184,6 +185,60 @@ enum_in_order d enum h =
     let constants = key_before (constants_of (given (codes "constants") d)) keys.Constants _ enum base.2 in
     subst (λ e. AreByValue e.constants) (same_ok _ enum constants.2) (all_constants_in_order (given (codes "constants") d) constants.0 constants.1)
 
+-- sizes are counts
+same_name : (a b : List ℕ) → is_eq (slice_cmp nat_cmp a b) ≡ true → a ≡ b
+same_name a b tied = (bytes_decides a b).0 (texts_ties a b ∙ tied)
+
+enum_counted : (d : Data) (enum : EnumType) → enum_of d ≡ Ok enum → enum.size < 2 ^ 32
+enum_counted d enum h =
+    let size = key_before (count_at (codes "size") d) keys.Size _ enum h in
+    let base = key_before (text_at (codes "base") d) keys.Base _ enum size.2 in
+    let constants = key_before (constants_of (given (codes "constants") d)) keys.Constants _ enum base.2 in
+    subst (λ e. e.size < 2 ^ 32) (same_ok _ enum constants.2) (counted_at (codes "size") d size.0 size.1)
+
+user_counted : (d : Data) (user : UserType) → user_of d ≡ Ok user → user.size < 2 ^ 32
+user_counted d user h =
+    let size = key_before (count_at (codes "size") d) keys.Size _ user h in
+    let kind = key_before (option_and_then user_kind_of (text_at (codes "kind") d)) keys.Kind _ user size.2 in
+    let fields = key_before (fields_of (given (codes "fields") d)) keys.Fields _ user kind.2 in
+    subst (λ u. u.size < 2 ^ 32) (same_ok _ user fields.2) (counted_at (codes "size") d size.0 size.1)
+
+-- a base type's size is a count, and fits its name
+abbrev IsSized : List ℕ × BaseType → Type 0
+IsSized entry = ((entry.1).size < 2 ^ 32) × (size_fits entry.0 (entry.1).size ≡ true)
+
+fitted : (name : List ℕ) (n m : ℕ) → if_fits name n ≡ Some m → n < 2 ^ 32 → (m < 2 ^ 32) × (size_fits name m ≡ true)
+fitted name n m h count = go (size_fits name n) refl h
+  where
+    go : (b : Bool) → size_fits name n ≡ b → cond b (Some n) None ≡ Some m → (m < 2 ^ 32) × (size_fits name m ≡ true)
+    go true fits e = subst (λ k. (k < 2 ^ 32) × (size_fits name k ≡ true)) (same_some n m e) (count, fits)
+    go false fits e = cc
+
+base_sized : (name : List ℕ) (d : Data) (base : BaseType) → base_of name d ≡ Ok base → IsSized (name, base)
+base_sized name d base h =
+    let size = key_before (option_and_then (if_fits name) (count_at (codes "size") d)) keys.Size _ base h in
+    let count = found_before (count_at (codes "size") d) (if_fits name) size.0 size.1 in
+    let signed = key_before (flag_at (codes "signed") d) keys.Signed _ base size.2 in
+    let kind = key_before (option_and_then base_kind_of (text_at (codes "kind") d)) keys.Kind _ base signed.2 in
+    let big = key_before (option_and_then big_of (text_at (codes "endian") d)) keys.Endian _ base kind.2 in
+    subst (λ b. IsSized (name, b)) (same_ok _ base big.2) (fitted name count.0 size.0 count.2 (counted_at (codes "size") d count.0 count.1))
+
+base_sizes_of : (bases : List (List ℕ × BaseType)) → AllByRecursion IsSized bases → AllByRecursion HasBaseSize bases
+base_sizes_of [] h = tt
+base_sizes_of (e ∷ bases) h = ((h.0).0, base_sizes_of bases h.1)
+
+pointer_fits : (size : ℕ) → size_fits (codes "pointer") size ≡ true → (1 ≤ size) × (size ≤ 8)
+unfolding size_fits
+pointer_fits size h = search rules
+
+pointer_of : (bases : List (List ℕ × BaseType)) → AllByRecursion IsSized bases → HasPointerSize bases
+pointer_of [] h = tt
+pointer_of (e ∷ bases) h = go (is_eq (slice_cmp nat_cmp (codes "pointer") e.0)) refl (pointer_of bases h.1)
+  where
+    go : (b : Bool) → is_eq (slice_cmp nat_cmp (codes "pointer") e.0) ≡ b → HasPointerSize bases → IfSome (cond b (Some e.1) (entry_named (codes "pointer") bases)) (λ base. (1 ≤ base.size) × (base.size ≤ 8))
+    go true same more = pointer_fits (e.1).size (subst (λ name. size_fits name (e.1).size ≡ true) (sym (same_name (codes "pointer") e.0 same)) (h.0).1)
+    go false other more = more
+
 -- sections
 module _ {E : Type 0} (reads : List ℕ → Data → Result E Key) where
   abbrev Entries : Type 0
@@ -219,26 +274,27 @@ module _ {E : Type 0} (reads : List ℕ → Data → Result E Key) where
   names_of None all h = subst HasNamesInOrder (same_ok [] all h) no_names_in_order
   names_of (Some d) all h = names_in d all h
 
-  module _ (P : E → Type 0) (keep : (name : List ℕ) (d : Data) (e : E) → reads name d ≡ Ok e → P e) where
-    abbrev All : Entries → Type 0
-    All = AllByRecursion (λ e. P e.1)
+  module _ (P : List ℕ × E → Type 0) (keep : (name : List ℕ) (d : Data) (e : E) → reads name d ≡ Ok e → P (name, e)) where
+    -- an entry stands under its name
+    takes : (k l : List ℕ) (v w : E) → slice_cmp nat_cmp k l ≡ Equal → P (k, v) → P (l, w) → P (l, v)
+    takes k l v w tied new old = subst (λ name. P (name, v)) (same_name k l (ap is_eq tied)) new
 
-    all_onto : (ms : Members) (found : Entries) (all : Entries) → entries_onto reads found ms ≡ Ok all → All found → All all
-    all_onto no_members found all h kept = subst All (same_ok found all h) kept
+    all_onto : (ms : Members) (found : Entries) (all : Entries) → entries_onto reads found ms ≡ Ok all → AllByRecursion P found → AllByRecursion P all
+    all_onto no_members found all h kept = subst (AllByRecursion P) (same_ok found all h) kept
     all_onto (member name d ms) found all h kept =
         let p = entry_before name (entry_of reads name d) (λ entry. entries_onto reads (insert_entry (slice_cmp nat_cmp) found name entry) ms) all h in
-        all_onto ms _ all p.2 (all_values_inserted (slice_cmp nat_cmp) nat_list_cmp_total P found name p.0 kept (keep name d p.0 (object_before _ (reads name d) p.0 p.1)))
+        all_onto ms _ all p.2 (all_inserted (slice_cmp nat_cmp) P takes found name p.0 kept (keep name d p.0 (object_before _ (reads name d) p.0 p.1)))
 
-    all_in : (d : Data) (all : Entries) → section_in reads d ≡ Ok all → All all
-    all_in null all h = subst All (same_ok [] all h) tt
+    all_in : (d : Data) (all : Entries) → section_in reads d ≡ Ok all → AllByRecursion P all
+    all_in null all h = subst (AllByRecursion P) (same_ok [] all h) tt
     all_in (boolean b) all h = cc
     all_in (number n) all h = cc
     all_in (string s) all h = cc
     all_in (array ds) all h = cc
     all_in (object ms) all h = all_onto ms [] all h tt
 
-    all_of : (o : Option Data) (all : Entries) → section_of reads o ≡ Ok all → All all
-    all_of None all h = subst All (same_ok [] all h) tt
+    all_of : (o : Option Data) (all : Entries) → section_of reads o ≡ Ok all → AllByRecursion P all
+    all_of None all h = subst (AllByRecursion P) (same_ok [] all h) tt
     all_of (Some d) all h = all_in d all h
 
 section_before : {E : Type 0} (section : Section) (r : Result (List (List ℕ × E)) (List ℕ × Key)) (all : List (List ℕ × E)) → in_section section r ≡ Ok all → r ≡ Ok all
@@ -252,17 +308,23 @@ sections_kept b e u y s h shallow =
     let users = behind_before (in_section _ (section_of (λ name. user_of) u)) _ s enums.2 in
     let symbols = behind_before (in_section _ (section_of (λ name. symbol_of) y)) _ s users.2 in
     let is = same_ok _ s symbols.2 in
+    let read_bases = section_before _ (section_of base_of b) bases.0 bases.1 in
     let read_enums = section_before _ (section_of (λ name. enum_of) e) enums.0 enums.1 in
     let read_users = section_before _ (section_of (λ name. user_of) u) users.0 users.1 in
+    let sized : AllByRecursion IsSized s.bases = subst (λ t. AllByRecursion IsSized t.bases) is (all_of base_of IsSized base_sized b bases.0 read_bases) in
     record {
-      bases = subst (λ t. HasNamesInOrder t.bases) is (names_of base_of b bases.0 (section_before _ (section_of base_of b) bases.0 bases.1));
+      bases = subst (λ t. HasNamesInOrder t.bases) is (names_of base_of b bases.0 read_bases);
       enums = subst (λ t. HasNamesInOrder t.enums) is (names_of (λ name. enum_of) e enums.0 read_enums);
       users = subst (λ t. HasNamesInOrder t.users) is (names_of (λ name. user_of) u users.0 read_users);
       symbols = subst (λ t. HasNamesInOrder t.symbols) is (names_of (λ name. symbol_of) y symbols.0 (section_before _ (section_of (λ name. symbol_of) y) symbols.0 symbols.1));
       shallow = shallow;
-      fields = subst (λ t. AllByRecursion HasFieldsInOrder t.users) is (all_of (λ name. user_of) (λ user. AreByOffset user.fields) (λ name. user_in_order) u users.0 read_users);
-      offsets = subst (λ t. AllByRecursion HasNearFields t.users) is (all_of (λ name. user_of) (λ user. AreNear user.fields) (λ name. user_near) u users.0 read_users);
-      constants = subst (λ t. AllByRecursion HasConstantsInOrder t.enums) is (all_of (λ name. enum_of) (λ enum. AreByValue enum.constants) (λ name. enum_in_order) e enums.0 read_enums);
+      fields = subst (λ t. AllByRecursion HasFieldsInOrder t.users) is (all_of (λ name. user_of) HasFieldsInOrder (λ name. user_in_order) u users.0 read_users);
+      offsets = subst (λ t. AllByRecursion HasNearFields t.users) is (all_of (λ name. user_of) HasNearFields (λ name. user_near) u users.0 read_users);
+      base_sizes = base_sizes_of s.bases sized;
+      pointer = pointer_of s.bases sized;
+      enum_sizes = subst (λ t. AllByRecursion HasEnumSize t.enums) is (all_of (λ name. enum_of) HasEnumSize (λ name. enum_counted) e enums.0 read_enums);
+      user_sizes = subst (λ t. AllByRecursion HasUserSize t.users) is (all_of (λ name. user_of) HasUserSize (λ name. user_counted) u users.0 read_users);
+      constants = subst (λ t. AllByRecursion HasConstantsInOrder t.enums) is (all_of (λ name. enum_of) HasConstantsInOrder (λ name. enum_in_order) e enums.0 read_enums);
     }
 
 -- what a file's sections are, where no user type is too deep, is a table

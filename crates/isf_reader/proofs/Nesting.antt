@@ -1,93 +1,112 @@
--- Who nests one level deeper follows from who nests so deep.
-use Rattle.std.proofs.Common.{◌≡◌, ℕ, zero, suc, ◌+◌, ◌-◌, List, [], ◌∷◌, Bool, true, false, ◌||◌, cond, ◌≤◌, Option, Some, None, option_map, nat_cmp, is_eq, refl, sym, ap, ap₂, ◌∙◌}
-use Rattle.std.specs.Cmp.Lexicographic.{slice_cmp}
+-- Who nests one level deeper is found among those who nest so deep.
+use Rattle.std.proofs.Common.{◌≡◌, ℕ, zero, suc, List, [], ◌∷◌, Bool, true, false, ◌||◌, cond, Option, Some, None, option_map, filter, find, is_some, refl, sym, ap, ap₂, ◌∙◌, slice_get, add-one, ◌+◌, ◌<◌, length, arith, true≢false}
+use Rattle.std.specs.Cmp.Lexicographic.{slice_cmp, nat_list_cmp_total}
 use Rattle.std.specs.List.{list_any}
-use Rattle.std.proofs.lemmas.Option.{none-some}
-use Rattle.std.proofs.Math.Nat.{add-sub_of_le}
-use native.Mathlib.Numerals.{unary_clauses}
-use Rattle.isf_reader.specs.Depth.{entry_named, brought_in, brings, nests, marks_by, first_marked, deeper}
+use Rattle.std.specs.Option.{option_map_or, option_and_then}
+use Rattle.std.specs.Ordering.{nat_cmp}
+use Rattle.std.proofs.lemmas.Cmp.{eq_by_cmp_equiv}
+use Rattle.std.proofs.lemmas.Map.Entries.{lookup-filter-values, option_filter}
+use Rattle.std.proofs.lemmas.Map.Keys.{IsDistinct-from_sorted}
+use Rattle.isf_reader.proofs.Named.{first_shown}
+use Rattle.isf_reader.specs.Depth.{entry_named, brought_in, brings, nests, nesting, brings_in, brings_one_of, deeper, deepest, first_too_deep}
+use Rattle.isf_reader.specs.Sections.{shown}
+use Rattle.isf_reader.specs.Table.{HasNamesInOrder}
 use Rattle.isf_reader.specs.declared.user_type.Field.{Field}
 use Rattle.isf_reader.specs.declared.user_type.UserType.{UserType}
-
-map_found : {A B : Type 0} (f : A → B) (b : Bool) (a : A) (o : Option A) (p : Option B) → p ≡ option_map f o → cond b (Some (f a)) p ≡ option_map f (cond b (Some a) o)
-map_found f true a o p e = refl
-map_found f false a o p e = e
-
-marked_entry : {E : Type 0} (test : E → Bool) (name : List ℕ) (es : List (List ℕ × E)) → entry_named name (marks_by test es) ≡ option_map test (entry_named name es)
-marked_entry test name [] = refl
-marked_entry test name (e ∷ es) = map_found test (is_eq (slice_cmp nat_cmp name e.0)) e.1 _ _ (marked_entry test name es)
 
 abbrev Users : Type 0
 Users = List (List ℕ × UserType)
 
-mark_or_false : {E : Type 0} (test : E → Bool) (o : Option E) → Rattle.std.specs.Option.option_map_or (λ (mark : Bool). mark) (option_map test o) false ≡ Rattle.std.specs.Option.option_map_or test o false
-mark_or_false test None = refl
-mark_or_false test (Some e) = refl
+-- ---- a type that nests one level deeper nests so deep
 
-marked_brings : {E : Type 0} (test : E → Bool) (es : List (List ℕ × E)) (field : Field) → brings (λ mark. mark) (marks_by test es) field ≡ brings test es field
-marked_brings test es field = go (brought_in field)
+or_more : (a b c d : Bool) → (a ≡ true → c ≡ true) → (b ≡ true → d ≡ true) → (a || b) ≡ true → (c || d) ≡ true
+or_more true b c d first rest h = rw (first refl) refl
+or_more false b true d first rest h = refl
+or_more false b false d first rest h = rest h
+
+any_more : (f g : Field → Bool) → ((field : Field) → f field ≡ true → g field ≡ true) → (fields : List Field) → list_any f fields ≡ true → list_any g fields ≡ true
+any_more f g more [] h = h
+any_more f g more (field ∷ fields) h = or_more (f field) (list_any f fields) (g field) (list_any g fields) (more field) (any_more f g more fields) h
+
+test_more : (f g : UserType → Bool) → ((user : UserType) → f user ≡ true → g user ≡ true) → (o : Option UserType) → option_map_or f o false ≡ true → option_map_or g o false ≡ true
+test_more f g more None h = h
+test_more f g more (Some user) h = more user h
+
+nests_less : (users : Users) (n : ℕ) (user : UserType) → nests users (suc n) user ≡ true → nests users n user ≡ true
+unfolding nests
+nests_less users zero user h = refl
+nests_less users (suc n) user h =
+    any_more (brings (nests users (suc n)) users) (brings (nests users n) users) (λ field. test_more (nests users (suc n)) (nests users n) (nests_less users n) (option_and_then (λ name. entry_named name users) (brought_in field))) user.fields h
+
+-- ---- among those who nest so deep, a field brings in one exactly where it brings in a type that nests so deep
+
+passing : (test : UserType → Bool) (o : Option UserType) → is_some (option_filter test o) ≡ option_map_or test o false
+passing test None = refl
+passing test (Some user) = go (test user)
   where
-    go : (o : Option (List ℕ)) → Rattle.std.specs.Option.option_map_or (λ (mark : Bool). mark) (Rattle.std.specs.Option.option_and_then (λ name. entry_named name (marks_by test es)) o) false
-        ≡ Rattle.std.specs.Option.option_map_or test (Rattle.std.specs.Option.option_and_then (λ name. entry_named name es) o) false
-    go None = refl
-    go (Some name) = ap (λ o. Rattle.std.specs.Option.option_map_or (λ (mark : Bool). mark) o false) (marked_entry test name es) ∙ mark_or_false test (entry_named name es)
+    go : (b : Bool) → is_some (cond b (Some user) None) ≡ b
+    go true = refl
+    go false = refl
+
+there : (users : Users) → HasNamesInOrder users → (test : UserType → Bool) (name : List ℕ) → entry_named name (filter (λ e. test e.1) users) ≡ option_filter test (entry_named name users)
+there users sorted test name = lookup-filter-values (eq_by_cmp_equiv nat_list_cmp_total) test name users (IsDistinct-from_sorted (slice_cmp nat_cmp) _ sorted)
+
+same_brought : (users : Users) → HasNamesInOrder users → (test : UserType → Bool) (o : Option (List ℕ))
+    → is_some (option_and_then (λ name. entry_named name (filter (λ e. test e.1) users)) o) ≡ option_map_or test (option_and_then (λ name. entry_named name users) o) false
+same_brought users sorted test None = refl
+same_brought users sorted test (Some name) = ap is_some (there users sorted test name) ∙ passing test (entry_named name users)
 
 any_same : (f g : Field → Bool) → ((field : Field) → f field ≡ g field) → (fields : List Field) → list_any f fields ≡ list_any g fields
 any_same f g same [] = refl
 any_same f g same (field ∷ fields) = ap₂ ◌||◌ (same field) (any_same f g same fields)
 
-deeper_is : (users : Users) (n : ℕ) (user : UserType) → deeper (Some (marks_by (nests users n) users)) user ≡ nests users (suc n) user
+one_more : (users : Users) → HasNamesInOrder users → (n : ℕ) (user : UserType) → brings_one_of (nesting users n) user ≡ nests users (suc n) user
 unfolding nests
-deeper_is users n user = any_same _ _ (marked_brings (nests users n) users) user.fields
+one_more users sorted n user = any_same (brings_in (nesting users n)) (brings (nests users n) users) (λ field. same_brought users sorted (nests users n) (brought_in field)) user.fields
 
-pub first_round : (users : Users) → marks_by (deeper None) users ≡ marks_by (nests users 0) users
-unfolding nests
-first_round users = refl
+-- ---- the rounds
 
-pub next_round : (users : Users) (n : ℕ) → marks_by (deeper (Some (marks_by (nests users n) users))) users ≡ marks_by (nests users (n + 1)) users
-next_round users n =
-    let same : deeper (Some (marks_by (nests users n) users)) ≡ nests users (suc n) = λ i user. deeper_is users n user i in
-    rw Rattle.std.proofs.Common.add-one (ap (λ test. marks_by test users) same)
-
--- ---- where no type nests so deep, none nests deeper
-
-abbrev never : {E : Type 0} → E → Bool
-never entry = false
-
-none_after : {A : Type 0} (b : Bool) (a : A) (o : Option A) → cond b (Some a) o ≡ None → (b ≡ false) × (o ≡ None)
-none_after true a o e = absurd (none-some a (sym e))
-none_after false a o e = (refl, e)
-
-unmarked : {E : Type 0} (test : E → Bool) (es : List (List ℕ × E)) → first_marked (marks_by test es) ≡ None → marks_by test es ≡ marks_by never es
-unmarked test [] h = refl
-unmarked test (e ∷ es) h =
-    let first = none_after (test e.1) e.0 (first_marked (marks_by test es)) h in
-    ap₂ (λ mark more. (e.0, mark) ∷ more) first.0 (unmarked test es first.1)
-
-brings_never : {E : Type 0} (es : List (List ℕ × E)) (field : Field) → brings never es field ≡ false
-brings_never es field = go (Rattle.std.specs.Option.option_and_then (λ name. entry_named name es) (brought_in field))
+filter_within : {A : Type 0} (f g : A → Bool) → ((a : A) → f a ≡ true → g a ≡ true) → (xs : List A) → filter f (filter g xs) ≡ filter f xs
+filter_within f g within [] = refl
+filter_within f g within (a ∷ xs) = go (g a) refl (f a) refl (filter_within f g within xs)
   where
-    go : {E : Type 0} (o : Option E) → Rattle.std.specs.Option.option_map_or never o false ≡ false
-    go None = refl
-    go (Some e) = refl
+    go : (b : Bool) → g a ≡ b → (c : Bool) → f a ≡ c → filter f (filter g xs) ≡ filter f xs → filter f (cond b (a ∷ filter g xs) (filter g xs)) ≡ cond c (a ∷ filter f xs) (filter f xs)
+    go true in_g true in_f more = rw in_f (ap (λ rest. a ∷ rest) more)
+    go true in_g false out_f more = rw out_f more
+    go false out_g false out_f more = more
+    go false out_g true in_f more = absurd (true≢false (sym (within a in_f) ∙ out_g))
 
-any_never : (fields : List Field) → list_any never fields ≡ false
-any_never [] = refl
-any_never (field ∷ fields) = any_never fields
+keep_all : {A : Type 0} (xs : List A) → xs ≡ filter (λ _. true) xs
+keep_all [] = refl
+keep_all (a ∷ xs) = ap (λ rest. a ∷ rest) (keep_all xs)
 
-none_deeper : (users : Users) (user : UserType) → deeper (Some (marks_by never users)) user ≡ false
-none_deeper users user = any_same _ _ (λ field. marked_brings never users field ∙ brings_never users field) user.fields ∙ any_never user.fields
+pub first_round : (users : Users) → users ≡ nesting users 0
+unfolding nests
+first_round users = keep_all users
 
--- where no type nests n levels deep, none nests n and k
-none_nests : (users : Users) (n k : ℕ) → marks_by (nests users n) users ≡ marks_by never users → marks_by (nests users (n + k)) users ≡ marks_by never users
-none_nests users n zero h = simp unary_clauses h
-none_nests users n (suc k) h = simp unary_clauses
-    let before = none_nests users n k h in
-    let same : deeper (Some (marks_by never users)) ≡ never = λ i user. none_deeper users user i in
-    let next : marks_by (nests users (n + k + 1)) users ≡ marks_by never users = sym (next_round users (n + k)) ∙ rw before (ap (λ test. marks_by test users) same) in
-    rw Rattle.std.proofs.Common.add-one at next
+pub next_round : (users : Users) → HasNamesInOrder users → (n : ℕ) → deeper (nesting users n) ≡ nesting users (n + 1)
+next_round users sorted n =
+    let same : (λ (e : List ℕ × UserType). brings_one_of (nesting users n) e.1) ≡ (λ e. nests users (suc n) e.1) = λ i e. one_more users sorted n e.1 i in
+    let next : deeper (nesting users n) ≡ nesting users (suc n) =
+    ap (λ test. filter test (nesting users n)) same ∙ filter_within (λ e. nests users (suc n) e.1) (λ e. nests users n e.1) (λ e. nests_less users n e.1) users in
+    rw add-one next
 
-pub no_further_round : (users : Users) (n k : ℕ) → first_marked (marks_by (nests users n) users) ≡ None → n ≤ k → marks_by (nests users n) users ≡ marks_by (nests users k) users
-no_further_round users n k h le =
-    let none = unmarked (nests users n) users h in
-    none ∙ sym (rw (add-sub_of_le le) at (none_nests users n (k - n) none))
+-- the first that passes is the first of those that pass
+pub first_of_passing : {A : Type 0} (test : A → Bool) (xs : List A) → find test xs ≡ slice_get (filter test xs) 0
+first_of_passing test [] = refl
+first_of_passing test (a ∷ xs) = go (test a) (first_of_passing test xs)
+  where
+    go : (b : Bool) → find test xs ≡ slice_get (filter test xs) 0 → cond b (Some a) (find test xs) ≡ slice_get (cond b (a ∷ filter test xs) (filter test xs)) 0
+    go true more = refl
+    go false more = more
+
+-- the name of the first of the types that nest too deep
+pub first_name : {K E : Type 0} (spelled : K → List ℕ) (value : E → UserType) (users : Users) (es : List (K × E)) → shown spelled value es ≡ nesting users (suc deepest)
+    → option_map (λ e. spelled e.0) (slice_get es 0) ≡ first_too_deep users
+unfolding first_too_deep
+first_name spelled value users es h =
+    sym (first_shown spelled value es) ∙ ap (λ types. option_map (λ e. e.0) (slice_get types 0)) h ∙ sym (ap (option_map (λ e. e.0)) (first_of_passing (λ e. nests users (suc deepest) e.1) users))
+
+pub none_first : {A : Type 0} (xs : List A) → (0 < length xs → false ≡ true) → slice_get xs 0 ≡ None
+none_first [] h = refl
+none_first (a ∷ xs) h = absurd (true≢false (sym (h (omega arith))))

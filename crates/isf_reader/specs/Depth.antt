@@ -1,6 +1,6 @@
 -- How deep anonymous fields nest. The fields of an anonymous field of kind struct, union or class count as fields of the
 -- type around it, so a search for a field goes into them.
-use Rattle.std.specs.Prelude.{ℕ, zero, suc, List, [], ◌∷◌, map, Bool, true, false, if◌then◌else◌, Option, Some, None, option_and_then}
+use Rattle.std.specs.Prelude.{ℕ, zero, suc, List, filter, find, Bool, true, false, if◌then◌else◌, Option, Some, None, is_some, option_map, option_and_then}
 use Rattle.std.specs.Cmp.Lexicographic.{slice_cmp}
 use Rattle.std.specs.BTreeMap.{is_at}
 use Rattle.std.specs.List.{list_any}
@@ -44,20 +44,25 @@ unfoldable pub nests : List (List ℕ × UserType) → ℕ → UserType → Bool
 nests users zero user = true
 nests users (suc n) user = list_any (brings (nests users n) users) user.fields
 
--- the first name that is marked
-abbrev pub first_marked : List (List ℕ × Bool) → Option (List ℕ)
-first_marked [] = None
-first_marked (mark ∷ marks) = if mark.1 then Some mark.0 else first_marked marks
+-- anonymous fields nest at most so deep in a table
+abbrev pub deepest : ℕ
+deepest = 32
 
--- each name, and whether its entry passes a test
-abbrev pub marks_by : {E : Type 0} → (E → Bool) → List (List ℕ × E) → List (List ℕ × Bool)
-marks_by test entries = map (λ e. (e.0, test e.1)) entries
-
--- the first user type in which anonymous fields nest deeper than 32
+-- the first user type in which anonymous fields nest deeper
 unfoldable pub first_too_deep : List (List ℕ × UserType) → Option (List ℕ)
-first_too_deep users = first_marked (marks_by (nests users 33) users)
+first_too_deep users = option_map (λ e. e.0) (find (λ e. nests users (suc deepest) e.1) users)
 
--- what is marked as nesting so deep, from what is marked as nesting one less deep
-abbrev pub deeper : Option (List (List ℕ × Bool)) → UserType → Bool
-deeper None user = true
-deeper (Some marks) user = list_any (brings (λ mark. mark) marks) user.fields
+-- the user types in which anonymous fields nest at least so deep
+abbrev pub nesting : List (List ℕ × UserType) → ℕ → List (List ℕ × UserType)
+nesting users n = filter (λ e. nests users n e.1) users
+
+-- whether a field brings in one of these types
+abbrev pub brings_in : List (List ℕ × UserType) → Field → Bool
+brings_in types field = is_some (option_and_then (λ name. entry_named name types) (brought_in field))
+
+abbrev pub brings_one_of : List (List ℕ × UserType) → UserType → Bool
+brings_one_of types user = list_any (brings_in types) user.fields
+
+-- those of these types that bring in one of them
+abbrev pub deeper : List (List ℕ × UserType) → List (List ℕ × UserType)
+deeper types = filter (λ e. brings_one_of types e.1) types

@@ -39,6 +39,10 @@ module _ {E : Type 0} (reads : List ℕ → Data → Result E Key) where
 abbrev pub named : {K E : Type 0} → (K → List ℕ) → List (K × E) → List (List ℕ × E)
 named bytes es = map (λ e. (bytes e.0, e.1)) es
 
+-- entries by their names, and what their values show
+abbrev pub shown : {K E F : Type 0} → (K → List ℕ) → (E → F) → List (K × E) → List (List ℕ × F)
+shown bytes value es = map (λ e. (bytes e.0, value e.1)) es
+
 -- the entries of a map, or its fault
 abbrev pub told : {K E : Type 0} → (K → List ℕ) → Result (BTreeMap K E) Fault → Result (List (List ℕ × E)) (List ℕ × Key)
 told bytes read = result_map_both (λ m. named bytes m.entries) (λ fault. (fault.name, fault.key)) read

@@ -1,6 +1,6 @@
 -- The table that a symbol file is: an object with four sections. The sections are read in the order `base_types`, `enums`,
 -- `user_types`, `symbols`, and the first fault is the answer.
-use Rattle.std.specs.Prelude.{◌≡◌, ◌<◌, ℕ, ◌^◌, List, [], map, length, nat_lt, if◌then◌else◌, Option, Some, None, Result, Ok, Err, codes}
+use Rattle.std.specs.Prelude.{◌≡◌, ◌<◌, ◌≤◌, ℕ, ◌^◌, List, [], map, length, nat_lt, if◌then◌else◌, Option, Some, None, IfSome, Result, Ok, Err, codes}
 use Rattle.std.specs.Cmp.Lexicographic.{slice_cmp}
 use Rattle.std.specs.List.{AllByRecursion}
 use Rattle.std.specs.List.Sorted.{IsStrictlySortedBy}
@@ -11,7 +11,7 @@ use Rattle.serde_json.specs.Data.{Data, null, boolean, number, string, array, ob
 use Rattle.serde_json.specs.Find.{get_member}
 use Rattle.serde_json.specs.Read.{read}
 use Rattle.isf_reader.specs.BaseTypes.{base_of}
-use Rattle.isf_reader.specs.Depth.{first_too_deep}
+use Rattle.isf_reader.specs.Depth.{entry_named, first_too_deep}
 use Rattle.isf_reader.specs.Enums.{enum_of, by_value}
 use Rattle.isf_reader.specs.Sections.{section_of}
 use Rattle.isf_reader.specs.Symbols.{symbol_of}
@@ -112,6 +112,20 @@ IsNear field = field.offset < 2 ^ 32
 abbrev pub HasNearFields : List ℕ × UserType → Type 0
 HasNearFields entry = AllByRecursion IsNear (entry.1).fields
 
+-- sizes are counts
+abbrev pub HasBaseSize : List ℕ × BaseType → Type 0
+HasBaseSize entry = (entry.1).size < 2 ^ 32
+
+abbrev pub HasEnumSize : List ℕ × EnumType → Type 0
+HasEnumSize entry = (entry.1).size < 2 ^ 32
+
+abbrev pub HasUserSize : List ℕ × UserType → Type 0
+HasUserSize entry = (entry.1).size < 2 ^ 32
+
+-- a pointer has 1 to 8 bytes
+abbrev pub HasPointerSize : List (List ℕ × BaseType) → Type 0
+HasPointerSize bases = IfSome (entry_named (codes "pointer") bases) (λ base. (1 ≤ base.size) × (base.size ≤ 8))
+
 -- constants stand by value, and then by name
 abbrev pub HasConstantsInOrder : List ℕ × EnumType → Type 0
 HasConstantsInOrder entry = IsStrictlySortedBy by_value (map (λ constant. (constant.value, constant.name)) (entry.1).constants)
@@ -129,4 +143,8 @@ pub record IsTable (sections : Sections) : Type 0 where
   pub shallow : first_too_deep sections.users ≡ None
   pub fields : AllByRecursion HasFieldsInOrder sections.users
   pub offsets : AllByRecursion HasNearFields sections.users
+  pub base_sizes : AllByRecursion HasBaseSize sections.bases
+  pub pointer : HasPointerSize sections.bases
+  pub enum_sizes : AllByRecursion HasEnumSize sections.enums
+  pub user_sizes : AllByRecursion HasUserSize sections.users
   pub constants : AllByRecursion HasConstantsInOrder sections.enums

@@ -1,20 +1,19 @@
-//! How deep anonymous fields nest, found in rounds over all user types: a round marks the types that nest one level
-//! deeper than those that the round before it marked. So the work does not grow with the number of ways to a field.
-ghost use Rattle.std.specs.Prelude.{◌≡◌, ℕ, option_map, IfOk, OnOk};
-ghost use Rattle.std.specs.BTreeMap.{insert_entry};
-ghost use Rattle.std.specs.Cmp.Lexicographic.{slice_cmp};
+//! How deep anonymous fields nest, found in rounds: at first each user type is there, and a round keeps those that bring in
+//! one that is there. So a round costs no more than the types that are left, and the work does not grow with the number
+//! of ways to a field.
+ghost use Rattle.std.specs.Prelude.{◌≡◌, suc, option_map, is_some, IfOk};
 ghost use Rattle.std.specs.List.{list_any};
 ghost use Rattle.std.specs.Option.{option_copied};
-ghost use Rattle.std.specs.Ordering.{nat_cmp};
-ghost use Rattle.isf_reader.specs.Depth.{entry_named, brought_in, brings, deeper, marks_by, nests, first_marked, first_too_deep};
-ghost use Rattle.isf_reader.specs.Sections.{named};
+ghost use Rattle.isf_reader.specs.Depth.{entry_named, brought_in, brings_in, brings_one_of, deepest, deeper, nesting, first_too_deep};
+ghost use Rattle.isf_reader.specs.Sections.{named, shown};
+ghost use Rattle.isf_reader.specs.Table.{HasNamesInOrder};
 
 use crate::{Field, UserType};
 use layer_base::Name;
 use std::alloc::{AllocError, Global};
 use std::collections::BTreeMap;
 
-const ROUNDS: usize = 33;
+const DEEPEST: usize = 32;
 
 // The name of the user type whose fields an anonymous field brings in.
 fn brought_in(field: &Field) -> Option<&Name>
@@ -27,87 +26,76 @@ fn brought_in(field: &Field) -> Option<&Name>
     }
 }
 
-// Whether a name is marked, where it is known.
-fn mark_of(marks: &BTreeMap<&[u8], bool>, name: &[u8]) -> Option<bool>
-    ensures { result ≡ entry_named name.now (named (λ key. key.now) marks.now.entries) }
+// Whether one of the types has the name.
+fn has(types: &BTreeMap<&[u8], &UserType>, name: &[u8]) -> bool
+    ensures { result ≡ is_some (entry_named name.now (shown (λ key. key.now) (λ user. user.now) types.now.entries)) }
 {
-    marks.get(name).copied()
+    types.contains_key(name)
 }
 
-// Whether a field brings in a type that is marked.
-fn brings(marks: &BTreeMap<&[u8], bool>, field: &Field) -> bool
-    ensures { result ≡ brings (λ mark. mark) (named (λ key. key.now) marks.now.entries) field.now }
+// Whether a field brings in one of the types.
+fn brings_in(types: &BTreeMap<&[u8], &UserType>, field: &Field) -> bool
+    ensures { result ≡ brings_in (shown (λ key. key.now) (λ user. user.now) types.now.entries) field.now }
 {
     match brought_in(field) {
-        Some(name) => mark_of(marks, name.items()).unwrap_or(false),
+        Some(name) => has(types, name.items()),
         None => false,
     }
 }
 
 // Whether one of the fields does.
-fn any_brings(marks: &BTreeMap<&[u8], bool>, fields: &[Field]) -> bool
-    ensures { result ≡ list_any (brings (λ mark. mark) (named (λ key. key.now) marks.now.entries)) fields.now }
+fn any_brings_in(types: &BTreeMap<&[u8], &UserType>, fields: &[Field]) -> bool
+    ensures { result ≡ list_any (brings_in (shown (λ key. key.now) (λ user. user.now) types.now.entries)) fields.now }
 {
-    fields.iter().any(|field| brings(marks, field))
+    fields.iter().any(|field| brings_in(types, field))
 }
 
-// Whether a type nests one level deeper than those that are marked; without marks each type does.
-fn is_deeper(marks: Option<&BTreeMap<&[u8], bool>>, user: &UserType) -> bool
-    ensures { result ≡ deeper (option_map (λ m. named (λ key. key.now) m.now.entries) marks.entry) user.now }
-{
-    match marks {
-        Some(marks) => any_brings(marks, user.fields.items()),
-        None => true,
-    }
-}
-
-// Marks the types that nest one level deeper than those that are marked.
-fn round<'t>(
+// All user types of a table, which stand in the order of their names.
+fn all<'t>(
     alloc: Global,
     users: &'t BTreeMap<Vec<u8>, UserType>,
-    marks: Option<&BTreeMap<&'t [u8], bool>>,
-) -> Result<BTreeMap<&'t [u8], bool>, AllocError>
-    ensures { IfOk result (λ found. named (λ key. key.now) found.entries
-        ≡ marks_by (deeper (option_map (λ m. named (λ key. key.now) m.now.entries) marks.entry)) (named (λ name. name.items) users.now.entries)) }
+) -> Result<BTreeMap<&'t [u8], &'t UserType>, AllocError>
+    ensures all { IfOk result (λ types. shown (λ key. key.now) (λ user. user.now) types.entries ≡ named (λ name. name.items) users.now.entries) }
+    ensures order { IfOk result (λ _. HasNamesInOrder (named (λ name. name.items) users.now.entries)) }
+{
+    let mut types = BTreeMap::new(alloc);
+    for (name, user) in users {
+        types.insert(name.as_slice(), user)?;
+    }
+    Ok(types)
+}
+
+// Those of the types that bring in one of them.
+fn deeper<'t>(
+    alloc: Global,
+    types: &BTreeMap<&'t [u8], &'t UserType>,
+) -> Result<BTreeMap<&'t [u8], &'t UserType>, AllocError>
+    ensures { IfOk result (λ found. shown (λ key. key.now) (λ user. user.now) found.entries ≡ deeper (shown (λ key. key.now) (λ user. user.now) types.now.entries)) }
 {
     let mut found = BTreeMap::new(alloc);
-    for (name, user) in users {
-        found.insert(name.as_slice(), is_deeper(marks, user))?;
+    for (name, user) in types {
+        if any_brings_in(types, user.fields.items()) {
+            found.insert(*name, *user)?;
+        }
     }
     Ok(found)
 }
 
-// Marks the types that nest deeper than 32 levels. Once a round marks no type, none nests deeper, and the rounds end.
-fn rounds<'t>(
+// The user types in which anonymous fields nest too deep.
+fn too_deep<'t>(
     alloc: Global,
     users: &'t BTreeMap<Vec<u8>, UserType>,
-) -> Result<BTreeMap<&'t [u8], bool>, AllocError>
-    ensures { IfOk result (λ found. named (λ key. key.now) found.entries
-        ≡ marks_by (nests (named (λ name. name.items) users.now.entries) ROUNDS) (named (λ name. name.items) users.now.entries)) }
+) -> Result<BTreeMap<&'t [u8], &'t UserType>, AllocError>
+    ensures { IfOk result (λ types. shown (λ key. key.now) (λ user. user.now) types.entries ≡ nesting (named (λ name. name.items) users.now.entries) (suc deepest)) }
 {
-    let mut marks = round(alloc, users, None)?;
-    for _level in 0..ROUNDS {
-        if first_marked(&marks).is_none() {
-            return Ok(marks);
-        }
-        marks = round(alloc, users, Some(&marks))?;
+    let mut types = all(alloc, users)?;
+    for _level in 0..DEEPEST + 1 {
+        types = deeper(alloc, &types)?;
     }
-    Ok(marks)
+    Ok(types)
 }
 
-// The first name that is marked.
-fn first_marked<'t>(marks: &BTreeMap<&'t [u8], bool>) -> Option<&'t [u8]>
-    ensures { option_copied result ≡ first_marked (named (λ key. key.now) marks.now.entries) }
-{
-    for (name, mark) in marks {
-        if *mark {
-            return Some(*name);
-        }
-    }
-    None
-}
-
-// The first user type in which anonymous fields nest deeper than 32 levels.
+// The first user type in which anonymous fields nest too deep.
 #[tactic(auto, unfolding(crate::specs::Depth::first_too_deep))]
 pub(crate) fn first_too_deep(
     alloc: Global,
@@ -115,9 +103,9 @@ pub(crate) fn first_too_deep(
 ) -> Result<Option<Name>, AllocError>
     ensures { IfOk result (λ name. name ≡ first_too_deep (named (λ name. name.items) users.now.entries)) }
 {
-    let marks = rounds(alloc, users)?;
-    match first_marked(&marks) {
-        Some(name) => Ok(Some(Name::from(Vec::from_slice(alloc, name)?))),
+    let types = too_deep(alloc, users)?;
+    match types.first_key_value() {
+        Some((name, _)) => Ok(Some(Name::from(Vec::from_slice(alloc, name)?))),
         None => Ok(None),
     }
 }

@@ -2,7 +2,7 @@
 use Rattle.std.proofs.Common.{◌≡◌, ℕ, List, [], ◌++◌, length, take, Option, None, Some, Result, Ok, Err, IsErr, refl, sym, ◌∙◌, ap, append_assoc, ◌-◌, drop, take-append-drop}
 use Rattle.std.proofs.lemmas.List.{take_at, take_rest, append-nil}
 use Rattle.std.specs.Io.{StartsWith}
-use Rattle.std.specs.Io.KnownBytes.{Appends, Keeps}
+use Rattle.std.specs.Io.KnownBytes.{Appends}
 use Rattle.layer_base.specs.Known.{AppendsPrefix, Writes}
 
 pub Appends-none : (old : Option (List ℕ)) → Appends old old []
@@ -14,12 +14,6 @@ Appends-append None mid new xs ys first second = tt
 Appends-append (Some a) None new xs ys first second = absurd first
 Appends-append (Some a) (Some b) None xs ys first second = absurd second
 Appends-append (Some a) (Some b) (Some c) xs ys first second = second ∙ ap (λ (l : List ℕ). l ++ ys) first ∙ append_assoc a xs ys
-
-pub Appends-keep : (old mid new : Option (List ℕ)) (xs : List ℕ) → Appends old mid xs → Keeps mid new → Appends old new xs
-Appends-keep None mid new xs first kept = tt
-Appends-keep (Some a) None new xs first kept = absurd first
-Appends-keep (Some a) (Some b) None xs first kept = absurd kept
-Appends-keep (Some a) (Some b) (Some c) xs first kept = kept ∙ first
 
 -- what stands in front of a text is a prefix of it
 pub StartsWith-front : (xs ys : List ℕ) → StartsWith (xs ++ ys) xs

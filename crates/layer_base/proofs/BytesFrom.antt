@@ -20,19 +20,22 @@ bytes_from-add memory at (suc n) k =
     ap (bytes_from memory at) more
     ∙ ap (λ l. memory at ∷ l) (bytes_from-add memory (at + 1) n k ∙ ap (λ a. bytes_from memory (at + 1) n ++ bytes_from memory a k) place)
 
--- memories that agree at each of the addresses
-pub bytes_from-same : (memory other : AddressSpace) (at n : ℕ) → ((k : ℕ) → k < n → memory (at + k) ≡ other (at + k)) → bytes_from memory at n ≡ bytes_from other at n
+-- the bytes from one address on are those of another memory from another on
+pub bytes_from-moved : (memory other : AddressSpace) (at place n : ℕ) → ((k : ℕ) → k < n → memory (at + k) ≡ other (place + k)) → bytes_from memory at n ≡ bytes_from other place n
 unfolding bytes_from
-bytes_from-same memory other at zero same = refl
-bytes_from-same memory other at (suc n) same =
-    let here : memory at ≡ other at = let zero_more : at + 0 ≡ at = omega arith in rw zero_more at (same 0 (omega arith)) in
-    let rest : (k : ℕ) → k < n → memory (at + 1 + k) ≡ other (at + 1 + k) = λ k below. let place : at + 1 + k ≡ at + suc k = omega arith in rw place (same (suc k) (omega arith)) in
-    λ i. here i ∷ bytes_from-same memory other (at + 1) n rest i
+bytes_from-moved memory other at place zero same = refl
+bytes_from-moved memory other at place (suc n) same =
+    let here : memory at ≡ other place = let none : at + 0 ≡ at = omega arith in let there : place + 0 ≡ place = omega arith in rw (none, there) at (same 0 (omega arith)) in
+    let rest : (k : ℕ) → k < n → memory (at + 1 + k) ≡ other (place + 1 + k) = λ k below.
+    let next : at + 1 + k ≡ at + suc k = omega arith in
+    let after : place + 1 + k ≡ place + suc k = omega arith in
+    rw (next, after) (same (suc k) (omega arith)) in
+    λ i. here i ∷ bytes_from-moved memory other (at + 1) (place + 1) n rest i
 
 -- a hole
 pub bytes_from-absent : (memory : AddressSpace) (at n : ℕ) → ((k : ℕ) → k < n → memory (at + k) ≡ None) → bytes_from memory at n ≡ replicate n None
 unfolding bytes_from
-bytes_from-absent memory at n absent = bytes_from-same memory (λ a. None) at n absent ∙ holes at n
+bytes_from-absent memory at n absent = bytes_from-moved memory (λ a. None) at at n absent ∙ holes at n
   where
     holes : (at n : ℕ) → bytes_from (λ a. None) at n ≡ replicate n None
     holes at zero = refl

@@ -1,9 +1,10 @@
 pub mod Appending
+pub mod Buffers
 pub mod BytesFrom
-pub mod Counting
+pub mod Filling
 pub mod Layers
-pub mod Physical
 pub mod Played
 pub mod Present
 pub mod Ranges
 pub mod Stretches
+pub mod Told

@@ -1,13 +1,29 @@
 -- The laws of the bytes that are present in a row.
-use Rattle.std.proofs.Common.{◌≡◌, ℕ, zero, suc, ◌+◌, ◌-◌, ◌^◌, ◌<◌, ◌≤◌, List, [], ◌∷◌, ◌++◌, length, take, drop, get_or, Option, None, Some, refl, sym, ap, ◌∙◌, arith, inl, inr, drop-cons}
+use Rattle.std.proofs.Common.{◌≡◌, ℕ, zero, suc, ◌+◌, ◌-◌, ◌^◌, ◌<◌, ◌≤◌, List, [], ◌∷◌, ◌++◌, length, map, take, drop, get_or, Option, None, Some, refl, sym, ap, ◌∙◌, arith, inl, inr, drop-cons}
 use Rattle.std.proofs.lemmas.Bool.{cases_lt}
 use Rattle.std.proofs.lemmas.List.{append-nil, drop_all}
 use Rattle.std.proofs.lemmas.Option.{slice_get_past, slice_get-get_or}
-use Rattle.layer_base.specs.AddressSpace.{AddressSpace}
+use Rattle.layer_base.specs.AddressSpace.{AddressSpace, bytes_from}
 use Rattle.layer_base.specs.Present.{while_present, present_from}
 use Rattle.layer_base.specs.View.{physical}
 use Rattle.layer_base.specs.View.View.{File}
 use Rattle.layer_base.proofs.Stretches.{physical-File}
+
+-- of no bytes none is present
+pub present_from-nothing : (memory : AddressSpace) (at : ℕ) → present_from memory at 0 ≡ []
+unfolding present_from
+present_from-nothing memory at = refl
+
+-- bytes that all stand in a list are all present
+pub present_from-bytes : (memory : AddressSpace) (at n : ℕ) (bytes : List ℕ) → bytes_from memory at n ≡ map Some bytes → present_from memory at n ≡ bytes
+unfolding bytes_from present_from
+present_from-bytes memory at zero [] is = refl
+present_from-bytes memory at zero (byte ∷ rest) is = absurd (cc)
+present_from-bytes memory at (suc n) [] is = absurd (cc)
+present_from-bytes memory at (suc n) (byte ∷ rest) is =
+    let here : memory at ≡ Some byte = cc in
+    let more : bytes_from memory (at + 1) n ≡ map Some rest = cc in
+    rw here (ap (λ (l : List ℕ). byte ∷ l) (present_from-bytes memory (at + 1) n rest more))
 
 -- no byte is present at an absent address
 pub present_from-absent : (memory : AddressSpace) (at n : ℕ) → memory at ≡ None → present_from memory at n ≡ []

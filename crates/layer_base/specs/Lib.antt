@@ -1,8 +1,10 @@
 pub mod AddressSpace
 pub mod Attach
+pub mod Codes
 pub mod Counts
 pub mod Known
 pub mod Lime
+pub mod Mapped
 pub mod Memory
 pub mod Present
 pub mod Ranges

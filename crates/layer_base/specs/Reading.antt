@@ -1,7 +1,7 @@
--- How a device is read.
+-- How a device is read, and how far its holes are said to reach.
 use Rattle.std.specs.Prelude.{◌≡◌, ℕ, ◌-◌, ◌^◌}
 use Rattle.layer_base.specs.View.{View}
-use Rattle.layer_base.specs.View.View.{Ranges}
+use Rattle.layer_base.specs.View.View.{File, Ranges}
 use Rattle.layer_base.specs.Ranges.{reach}
 use Rattle.layer_base.specs.declared.layer.Run.{Run}
 use Rattle.layer_base.specs.declared.layer.Run.TheVariants.{Present, Absent}
@@ -13,10 +13,11 @@ abbrev pub view_of : Reading → View → View
 view_of readings.Raw below = below
 view_of (readings.Ranges segments) below = Ranges below segments
 
--- the last address of a hole at an address
-abbrev pub reach_of : Reading → ℕ → ℕ
-reach_of readings.Raw a = 2 ^ 64 - 1
-reach_of (readings.Ranges segments) a = reach segments a
+-- The last address of a hole in a view. In a file it is the last of all. In ranges it is the one before the next range
+-- begins, and no further than the range that shows the address.
+abbrev pub reach_of : View → ℕ → ℕ
+reach_of (File bytes) at = 2 ^ 64 - 1
+reach_of (Ranges below segments) at = reach segments at
 
 -- a hole reaches just so far
 abbrev pub ReachesTo : ℕ → Run → Type 0

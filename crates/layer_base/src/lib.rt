@@ -27,6 +27,6 @@ pub use segment::Segment;
 pub use segments::Segments;
 pub use sink::{Sink, SinkFault, write_whole};
 pub use source::Source;
-pub use space::{Levels, Mapped, Space, frame_of, page_address};
+pub use space::{Levels, Mapped, Space, block_size, frame_of, page_address};
 pub use steps::Steps;
 pub use why::{Rule, Why};

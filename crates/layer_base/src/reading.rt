@@ -40,7 +40,7 @@ pub fn run_of_reading<D: Device>(
     requires { 0 < length buf.old }
     ensures within { IfOk result (IsWithin at (length buf.old)) }
     ensures run { IfSome (D.held device.old) (λ held. IfOk result (IsTrueOf (physical (view_of reading.now (File held))) at buf.new)) }
-    ensures reach { IfOk result (ReachesTo (reach_of reading.now at)) }
+    ensures reach { (held : List ℕ) → IfOk result (ReachesTo (reach_of (view_of reading.now (File held)) at)) }
     ensures same { D.held device.new ≡ D.held device.old }
     ensures cause { HasCause (D.faults device.old) (D.faults device.new) (IsErr result) }
 {
@@ -70,7 +70,7 @@ pub fn room_within(more: u64, length: usize) -> usize
 
 fn stretch_at(reading: &Reading, at: u64) -> Stretch
     ensures within { at ≤ result.last }
-    ensures last { result.last ≡ reach_of reading.now at }
+    ensures last { (held : List ℕ) → result.last ≡ reach_of (view_of reading.now (File held)) at }
     ensures shown { (below : View) → IsShownFrom (physical (view_of reading.now below)) (physical below) at result }
 {
     match reading {

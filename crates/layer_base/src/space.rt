@@ -1,6 +1,7 @@
 //! Spaces of addresses, and what a piece of one is mapped to.
-ghost use Rattle.std.specs.Prelude.{◌≡◌, ◌<◌};
-ghost use Rattle.layer_base.specs.Space.{frame_of, page_address, are_same_levels, is_same_space};
+ghost use Rattle.std.specs.Prelude.{◌≡◌, ◌<◌, ◌≤◌};
+ghost use Rattle.layer_base.specs.Mapped.{block_size};
+ghost use Rattle.layer_base.specs.Space.{frame_of, page_address};
 ghost use Rattle.layer_base.specs.declared.space.Space.TheVariants.{Paged};
 
 /// How many levels of tables a paged space has, after the Intel SDM, volume 3, "Paging".
@@ -33,6 +34,16 @@ const FRAME_END: u64 = 1 << 52;
 
 const PAGE_SIZE: u64 = 1 << 12;
 
+/// How many addresses one entry of a table of a level is for, after the Intel SDM, volume 3, "Paging": 4 KiB at level 1,
+/// and 512 times as many at each level above.
+pub fn block_size(level: u32) -> u64
+    requires least { 1 ≤ level }
+    requires most { level ≤ 5 }
+    ensures { result ≡ block_size level }
+{
+    1 << (12 + 9 * (level - 1))
+}
+
 /// The physical address of a block of a size in a root or an entry of a table: its bits below bit 52, and zeros where
 /// they are within the block.
 pub fn frame_of(size: u64, entry: u64) -> u64
@@ -49,15 +60,6 @@ pub fn page_address(entry: u64) -> u64
     frame_of(PAGE_SIZE, entry)
 }
 
-fn are_same_levels(levels: Levels, other: Levels) -> bool
-    ensures { result ≡ are_same_levels levels other }
-{
-    matches!(
-        (levels, other),
-        (Levels::Four, Levels::Four) | (Levels::Five, Levels::Five)
-    )
-}
-
 impl Space {
     /// The space of a root, whose other bits than 51 to 12 are cleared.
     pub fn paged(root: u64, levels: Levels) -> Space
@@ -66,26 +68,6 @@ impl Space {
         Space::Paged {
             root: page_address(root),
             levels,
-        }
-    }
-
-    /// Whether the two are one space.
-    pub fn is_same(self, other: Space) -> bool
-        ensures { result ≡ is_same_space self other }
-    {
-        match (self, other) {
-            (Space::Phys, Space::Phys) => true,
-            (
-                Space::Paged { root, levels },
-                Space::Paged {
-                    root: other_root,
-                    levels: other_levels,
-                },
-            ) => {
-                page_address(root) == page_address(other_root)
-                    && are_same_levels(levels, other_levels)
-            }
-            _ => false,
         }
     }
 }

@@ -109,8 +109,3 @@ lime-ranges memory header is test = rw (← is, test) refl
 pub lime-other : (memory : AddressSpace) (header : List ℕ) → header ≡ present_from memory 0 32 → is_lime header ≡ false → lime memory ≡ Err NotThis
 unfolding lime
 lime-other memory header is test = rw (← is, test) refl
-
--- what follows from two facts on the bytes that are held
-pub both-told : {X : Type 0} (held now : Option X) {P Q R : X → Type 0} → now ≡ held → IfSome held P → IfSome now Q → ((x : X) → P x → Q x → R x) → IfSome held R
-both-told None now same p q follows = tt
-both-told (Some x) now same p q follows = follows x p (rw same at q)

@@ -1,6 +1,7 @@
 //! Single system calls. A call that a signal interrupted is made again.
-ghost use Rattle.std.specs.Prelude.{◌≡◌, ◌<◌, ◌≤◌, length, IfOk, IsErr};
+ghost use Rattle.std.specs.Prelude.{◌≡◌, ◌<◌, ◌≤◌, length, IfOk, OnErr, IsErr};
 ghost use Rattle.std.specs.Io.{ReadsAtMost};
+ghost use Rattle.std.specs.Io.KnownBytes.{ReadConsumes, WriteAppends};
 ghost use Rattle.layer_base.specs.Counts.{HasCause};
 
 use layer_base::Failed;
@@ -10,9 +11,10 @@ use std::os::unix::fs::FileExt;
 // How many times one call is tried.
 const TRIES: u32 = 1000;
 
-/// Reads what comes next into the front of the buffer.
+/// Reads what comes next into the front of the buffer. A failed call takes nothing.
 pub fn read_next<F: Read>(file: &mut F, buf: &mut [u8]) -> io::Result<usize>
-    ensures { ReadsAtMost result buf.new }
+    ensures within { ReadsAtMost result buf.new }
+    ensures bytes { ReadConsumes (F.remaining file.old) (F.remaining file.new) result buf.new }
 {
     for _ in 0..TRIES {
         match file.read(buf) {
@@ -40,6 +42,7 @@ pub fn read_from<F: FileExt>(file: &F, at: u64, buf: &mut [u8]) -> io::Result<us
 pub fn write_some<F: Write>(file: &mut F, piece: &[u8]) -> io::Result<usize>
     ensures within { IfOk result (λ n. n ≤ length piece.now) }
     ensures some { IfOk result (λ n. 0 < length piece.now → 0 < n) }
+    ensures bytes { WriteAppends (F.contents file.old) (F.contents file.new) result piece.now }
 {
     for _ in 0..TRIES {
         match file.write(piece) {
@@ -54,6 +57,7 @@ pub fn write_some<F: Write>(file: &mut F, piece: &[u8]) -> io::Result<usize>
 /// Counts a fault if the call failed.
 pub fn count_fault(faults: &mut u64, answer: io::Result<usize>) -> Result<usize, Failed>
     ensures ok { IfOk result (λ n. answer ≡ Ok n) }
+    ensures err { OnErr result (IsErr answer) }
     ensures cause { HasCause faults.old faults.new (IsErr result) }
 {
     match answer {

@@ -4,36 +4,36 @@ ghost use Rattle.std.specs.Prelude.{◌≡◌, ◌≤◌, length, IfOk};
 use crate::ahead::Ahead;
 use crate::calls::count_fault;
 use layer_base::{Failed, Source};
-use std::io::Input;
+use std::io::Read;
 
 /// Standard input. Nothing else may read it meanwhile, since some of it is read ahead.
 #[derive(Drop)]
-pub struct RealInput<R: Input + Drop> {
-    reader: R::Reader,
+pub struct RealInput<F: Read + Drop> {
+    file: F,
     ahead: Ahead,
     faults: u64,
 }
 
-impl<R: Input + Drop> RealInput<R> {
-    /// The source of standard input. It reads nothing yet.
-    pub fn new(rt: R) -> Self {
+impl<F: Read + Drop> RealInput<F> {
+    /// The source of what is read from the file. It reads nothing yet.
+    pub fn new(file: F) -> Self {
         RealInput {
-            reader: rt.reader(),
+            file,
             ahead: Ahead::new(),
             faults: 0,
         }
     }
 }
 
-impl<R: Input + Drop> Source for RealInput<R> {
-    ghost use Rattle.std.specs.Prelude.{None};
+impl<F: Read + Drop> Source for RealInput<F> {
+    ghost use Rattle.memlens.specs.ReadAhead.{left_behind};
 
-    ghost left = { λ _. None };
+    ghost left = { λ source. left_behind source.ahead (F.remaining source.file) };
 
     ghost faults = { λ source. source.faults };
 
     fn read(&mut self, buf: &mut [u8]) -> Result<usize, Failed> {
-        let answer = self.ahead.read(&mut self.reader, buf);
+        let answer = self.ahead.read(&mut self.file, buf);
         count_fault(&mut self.faults, answer)
     }
 }

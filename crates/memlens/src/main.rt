@@ -11,6 +11,7 @@ mod output;
 mod program;
 mod sink;
 mod source;
+mod standard;
 
 use device::RealDevice;
 use file_layer::FileLayer;
@@ -21,6 +22,7 @@ use program::{exit_code, paths_of, run_with_formats};
 use session::Status;
 use sink::RealSink;
 use source::RealSource;
+use standard::Standard;
 use std::alloc::{AllocError, Global};
 use std::env;
 use std::io::ErrorKind;
@@ -50,14 +52,14 @@ fn run_files<L: Ledger>(rt: &HostRuntime, blank: Blank) -> Result<Status, AllocE
     requires parts { blank.parts ≡ L.parts }
     requires some { 0 < L.parts }
 {
+    let mut script = RealInput::new(Standard::new(rt.stdin()));
+    let mut out = RealOutput::new(Standard::new(rt.stdout()));
     let alloc = rt.alloc();
     let words = read_words(rt)?;
     let paths = paths_of(&words);
     let device = RealDevice::new(rt.clone()?, PathWord::of(alloc, paths.image)?);
     let image: Box<dyn Layer> = Box::new(alloc, FileLayer::new(alloc, device))?;
     let mut symbols = RealSource::new(rt.clone()?, PathWord::of(alloc, paths.symbols)?);
-    let mut script = RealInput::new(rt.clone()?);
-    let mut out = RealOutput::new(rt.clone()?);
     let mut dump = RealSink::new(rt.clone()?, PathWord::of(alloc, "")?);
     let mut steps = Steps::<L>::new(blank);
     Ok(run_with_formats(

@@ -1,31 +1,29 @@
 //! Standard output as a sink.
 use crate::calls::{count_fault, write_some};
 use layer_base::{Sink, SinkFault};
-use std::io;
+use std::io::Write;
 
 /// Standard output. Nothing is kept back: a write is one system call.
 #[derive(Drop)]
-pub struct RealOutput<R: Print + Drop> {
-    rt: R,
+pub struct RealOutput<F: Write + Drop> {
+    file: F,
     faults: u64,
 }
 
-impl<R: Print + Drop> RealOutput<R> {
-    /// The sink into standard output.
-    pub fn new(rt: R) -> Self {
-        RealOutput { rt, faults: 0 }
+impl<F: Write + Drop> RealOutput<F> {
+    /// The sink of what is written to the file.
+    pub fn new(file: F) -> Self {
+        RealOutput { file, faults: 0 }
     }
 }
 
-impl<R: Print + Drop> Sink for RealOutput<R> {
-    ghost use Rattle.std.specs.Prelude.{None};
-
-    ghost written = { λ _. None };
+impl<F: Write + Drop> Sink for RealOutput<F> {
+    ghost written = { λ sink. F.contents sink.file };
 
     ghost faults = { λ sink. sink.faults };
 
     fn write(&mut self, piece: &[u8]) -> Result<usize, SinkFault> {
-        let answer = write_some(&mut io::writer(&self.rt), piece);
+        let answer = write_some(&mut self.file, piece);
         match count_fault(&mut self.faults, answer) {
             Ok(n) => Ok(n),
             Err(_) => Err(SinkFault::Failed),

@@ -14,7 +14,7 @@ use Rattle.session.specs.Script.{is_quit, is_short, script_text, script_taken, t
 use Rattle.session.specs.Status.{IsAnswer, status_of_fault, status_after}
 use Rattle.session.specs.Turn.{flow_by, flow_after, turn_text, turn_flow, rest_text}
 use Rattle.session.specs.declared.command.Flow.TheVariants.{NextLine, Quit}
-use Rattle.session.specs.declared.line_buffer.TheConstants.{LINE_ROOM}
+use Rattle.session.specs.Limits.{line_room}
 use Rattle.session.specs.declared.status.CommandFault.{CommandFault}
 use Rattle.session.specs.declared.status.CommandFault.TheVariants as fault
 use Rattle.session.specs.declared.status.Status.TheVariants as status
@@ -113,8 +113,8 @@ module _ (evidence : Evidence) (script : List ℕ) (left left' out out' : Option
       let given' = given ++ byte ∷ [] in
       let taken' = Consumes-append script left left' given (byte ∷ []) underway.taken taken in
       let front = front_with byte taken' in
-      let turn : turn_text evidence line byte ≡ turn_text evidence (take LINE_ROOM (cut_lines given).rest) byte = ap (λ l. turn_text evidence l byte) underway.line_is in
-      let piece : StartsWith (turn_text evidence (take LINE_ROOM (cut_lines given).rest) byte) prefix.0 = subst (λ text. StartsWith text prefix.0) turn prefix.2 in
+      let turn : turn_text evidence line byte ≡ turn_text evidence (take line_room (cut_lines given).rest) byte = ap (λ l. turn_text evidence l byte) underway.line_is in
+      let piece : StartsWith (turn_text evidence (take line_room (cut_lines given).rest) byte) prefix.0 = subst (λ text. StartsWith text prefix.0) turn prefix.2 in
       let before : StartsWith (texts_of evidence (cut_lines given').whole) (so_far ++ prefix.0) = subst (λ text. StartsWith text (so_far ++ prefix.0)) (sym (texts-push evidence given byte)) (StartsWith-behind so_far _ prefix.0 piece) in (
         given',
         so_far ++ prefix.0,

@@ -11,3 +11,5 @@ pub mod Cells
 pub mod Told
 pub mod Taking
 pub mod SymbolRuns
+pub mod AtMost
+pub mod Attached

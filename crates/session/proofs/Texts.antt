@@ -9,7 +9,7 @@ use Rattle.session.specs.Headline.{lines_before_last}
 use Rattle.session.specs.Lines.{Lines, cut_lines, lines_of, unless_empty}
 use Rattle.session.specs.Script.{line_text, texts_of}
 use Rattle.session.specs.Turn.{turn_text, turn_line, rest_text}
-use Rattle.session.specs.declared.line_buffer.TheConstants.{LINE_ROOM}
+use Rattle.session.specs.Limits.{line_room}
 use Rattle.session.proofs.Clipped.{line_text-clipped, clipped-push}
 use Rattle.session.proofs.Cutting.{pushed, cut-push}
 
@@ -17,26 +17,26 @@ texts_of-append : (evidence : Evidence) (lines more : List (List ℕ)) → texts
 texts_of-append evidence lines more = flat_map-append (line_text evidence) lines more
 
 -- one byte more: the texts of the whole lines
-pub texts-push : (evidence : Evidence) (given : List ℕ) (byte : ℕ) → texts_of evidence (cut_lines (given ++ byte ∷ [])).whole ≡ texts_of evidence (cut_lines given).whole ++ turn_text evidence (take LINE_ROOM (cut_lines given).rest) byte
+pub texts-push : (evidence : Evidence) (given : List ℕ) (byte : ℕ) → texts_of evidence (cut_lines (given ++ byte ∷ [])).whole ≡ texts_of evidence (cut_lines given).whole ++ turn_text evidence (take line_room (cut_lines given).rest) byte
 texts-push evidence given byte = ap (λ lines. texts_of evidence lines.whole) (cut-push given byte) ∙ at_byte (eqb byte 10)
   where
     lines : Lines
     lines = cut_lines given
 
-    at_byte : (newline : Bool) → texts_of evidence (pushed newline byte lines).whole ≡ texts_of evidence lines.whole ++ cond newline (line_text evidence (take LINE_ROOM lines.rest)) []
+    at_byte : (newline : Bool) → texts_of evidence (pushed newline byte lines).whole ≡ texts_of evidence lines.whole ++ cond newline (line_text evidence (take line_room lines.rest)) []
     at_byte true =
         texts_of-append evidence lines.whole (lines.rest ∷ [])
         ∙ ap (λ (l : List ℕ). texts_of evidence lines.whole ++ l) (append-nil (line_text evidence lines.rest) ∙ sym (line_text-clipped evidence lines.rest))
     at_byte false = sym (append-nil (texts_of evidence lines.whole))
 
 -- one byte more: the line that is kept
-pub rest-push : (given : List ℕ) (byte : ℕ) → take LINE_ROOM (cut_lines (given ++ byte ∷ [])).rest ≡ turn_line (take LINE_ROOM (cut_lines given).rest) byte
-rest-push given byte = ap (λ lines. take LINE_ROOM lines.rest) (cut-push given byte) ∙ at_byte (eqb byte 10)
+pub rest-push : (given : List ℕ) (byte : ℕ) → take line_room (cut_lines (given ++ byte ∷ [])).rest ≡ turn_line (take line_room (cut_lines given).rest) byte
+rest-push given byte = ap (λ lines. take line_room lines.rest) (cut-push given byte) ∙ at_byte (eqb byte 10)
   where
     lines : Lines
     lines = cut_lines given
 
-    at_byte : (newline : Bool) → take LINE_ROOM (pushed newline byte lines).rest ≡ cond newline [] (take LINE_ROOM (take LINE_ROOM lines.rest ++ byte ∷ []))
+    at_byte : (newline : Bool) → take line_room (pushed newline byte lines).rest ≡ cond newline [] (take line_room (take line_room lines.rest ++ byte ∷ []))
     at_byte true = refl
     at_byte false = clipped-push lines.rest byte
 
@@ -85,7 +85,7 @@ texts-more evidence given more = let after = behind given more in StartsWith-fro
     behind given [] = ([], ap (λ (l : List ℕ). texts_of evidence (cut_lines l).whole) (append-nil given) ∙ sym (append-nil _))
     behind given (byte ∷ more) =
         let next = behind (given ++ byte ∷ []) more in
-        let turn = turn_text evidence (take LINE_ROOM (cut_lines given).rest) byte in (
+        let turn = turn_text evidence (take line_room (cut_lines given).rest) byte in (
           turn ++ next.0,
           ap (λ (l : List ℕ). texts_of evidence (cut_lines l).whole) (sym (append_assoc given (byte ∷ []) more)) ∙ next.1
               ∙ ap (λ (l : List ℕ). l ++ next.0) (texts-push evidence given byte) ∙ append_assoc (texts_of evidence (cut_lines given).whole) turn next.0,

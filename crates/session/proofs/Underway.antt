@@ -8,7 +8,7 @@ use Rattle.session.specs.Lines.{Lines, cut_lines}
 use Rattle.session.specs.Script.{texts_of, is_quit}
 use Rattle.session.specs.Turn.{turn_text, turn_line, turn_flow, flow_by, flow_after}
 use Rattle.session.specs.declared.command.Flow.TheVariants.{NextLine}
-use Rattle.session.specs.declared.line_buffer.TheConstants.{LINE_ROOM}
+use Rattle.session.specs.Limits.{line_room}
 use Rattle.session.proofs.Clipped.{is_quit-clipped}
 use Rattle.session.proofs.Cutting.{pushed, cut-push}
 use Rattle.session.proofs.Quits.{NoneQuits, NoneQuits-push}
@@ -21,7 +21,7 @@ pub record Underway (evidence : Evidence) (script : List ℕ) (left out out' : O
   pub count_is : length given ≡ count
   pub taken : Consumes (Some script) left given
   pub written : Appends out out' (texts_of evidence (cut_lines given).whole)
-  pub line_is : line ≡ take LINE_ROOM (cut_lines given).rest
+  pub line_is : line ≡ take line_room (cut_lines given).rest
   pub no_quit : NoneQuits (cut_lines given).whole
 
 pub Consumes-append : (script : List ℕ) (left left' : Option (List ℕ)) (given more : List ℕ) → Consumes (Some script) left given → Consumes left left' more → Consumes (Some script) left' (given ++ more)
@@ -49,14 +49,14 @@ goes_on true is = absurd (cc)
 goes_on false is = refl
 
 -- one byte more after which the script goes on
-none-push : (given : List ℕ) (byte : ℕ) → NoneQuits (cut_lines given).whole → NextLine ≡ turn_flow (take LINE_ROOM (cut_lines given).rest) byte → NoneQuits (cut_lines (given ++ byte ∷ [])).whole
+none-push : (given : List ℕ) (byte : ℕ) → NoneQuits (cut_lines given).whole → NextLine ≡ turn_flow (take line_room (cut_lines given).rest) byte → NoneQuits (cut_lines (given ++ byte ∷ [])).whole
 none-push given byte none flow = subst (λ lines. NoneQuits lines.whole) (sym (cut-push given byte)) (at_byte (eqb byte 10) flow)
   where
     lines : Lines
     lines = cut_lines given
 
-    at_byte : (newline : Bool) → NextLine ≡ cond newline (flow_after (take LINE_ROOM lines.rest)) NextLine → NoneQuits (pushed newline byte lines).whole
-    at_byte true is = NoneQuits-push lines.whole lines.rest none (sym (is_quit-clipped lines.rest) ∙ goes_on (is_quit (take LINE_ROOM lines.rest)) is)
+    at_byte : (newline : Bool) → NextLine ≡ cond newline (flow_after (take line_room lines.rest)) NextLine → NoneQuits (pushed newline byte lines).whole
+    at_byte true is = NoneQuits-push lines.whole lines.rest none (sym (is_quit-clipped lines.rest) ∙ goes_on (is_quit (take line_room lines.rest)) is)
     at_byte false is = none
 
 module _ (evidence : Evidence) (script : List ℕ) where

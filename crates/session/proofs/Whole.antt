@@ -10,7 +10,7 @@ use Rattle.session.specs.Lines.{cut_lines}
 use Rattle.session.specs.Run.{bytes_run}
 use Rattle.session.specs.Script.{is_short, script_text, script_taken, texts_of}
 use Rattle.session.specs.Turn.{rest_text}
-use Rattle.session.specs.declared.script.TheConstants.{MAX_SCRIPT}
+use Rattle.session.specs.Limits.{most_script}
 use Rattle.session.specs.declared.status.Status.TheVariants as status
 use Rattle.session.proofs.Texts.{texts-all, texts-more}
 
@@ -28,7 +28,7 @@ module _ (evidence : Evidence) (script : List ℕ) where
   unfolding script_text
   text-short short = rw short (texts-all evidence script)
 
-  pub text-long : is_short script ≡ false → script_text evidence script ≡ texts_of evidence (cut_lines (take MAX_SCRIPT script)).whole ++ codes "script too long\n"
+  pub text-long : is_short script ≡ false → script_text evidence script ≡ texts_of evidence (cut_lines (take most_script script)).whole ++ codes "script too long\n"
   unfolding script_text
   text-long long = rw long refl
 
@@ -36,7 +36,7 @@ module _ (evidence : Evidence) (script : List ℕ) where
   unfolding script_taken
   taken-short short = rw short refl
 
-  pub taken-long : is_short script ≡ false → script_taken script ≡ take (MAX_SCRIPT + 1) script
+  pub taken-long : is_short script ≡ false → script_taken script ≡ take (most_script + 1) script
   unfolding script_taken
   taken-long long = rw long refl
 
@@ -62,7 +62,7 @@ module _ (evidence : Evidence) (script given more : List ℕ) (split : script �
       by_length false long =
           let n = 16777216 - length given in
           let all : 16777216 ≡ length given + n = omega arith in
-          front (take n more) (take MAX_SCRIPT script) (ap (take MAX_SCRIPT) split ∙ ap (λ k. take k (given ++ more)) all ∙ take-append-add given more n) (script_text evidence script) (codes "script too long\n") (text-long evidence script long)
+          front (take n more) (take most_script script) (ap (take most_script) split ∙ ap (λ k. take k (given ++ more)) all ∙ take-append-add given more n) (script_text evidence script) (codes "script too long\n") (text-long evidence script long)
 
   -- and its bytes in front of those that are taken
   pub taken-front : length given ≤ 16777217 → StartsWith (script_taken script) given

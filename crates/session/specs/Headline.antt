@@ -1,5 +1,5 @@
 -- What a run leaves of the objects that it was lent.
-use Rattle.std.specs.Prelude.{◌≡◌, ℕ, ◌-◌, List, length, take, Option, IfSome}
+use Rattle.std.specs.Prelude.{◌≡◌, ℕ, ◌-◌, ◌≤◌, List, length, take, Option, IfSome}
 use Rattle.std.specs.Io.{StartsWith}
 use Rattle.std.specs.Io.KnownBytes.{Appends, Consumes}
 use Rattle.session.specs.Evidence.{Evidence}
@@ -16,6 +16,12 @@ WhereTold image symbols script P = IfSome image (λ view. IfSome symbols (λ sym
 -- a source gave a prefix of these bytes
 abbrev pub GavePrefix : Option (List ℕ) → Option (List ℕ) → List ℕ → Type 0
 GavePrefix old new bytes = (given : List ℕ) × Consumes old new given × StartsWith bytes given
+
+-- a source gave at most so many bytes
+pub record GaveAtMost (most : ℕ) (old new : Option (List ℕ)) : Type 0 where
+  pub given : List ℕ
+  pub consumed : Consumes old new given
+  pub few : length given ≤ most
 
 -- The lines but the last. The last is what follows the last newline, or where nothing does, the line that it ends.
 abbrev pub lines_before_last : List ℕ → List (List ℕ)

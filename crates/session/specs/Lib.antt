@@ -3,6 +3,7 @@ pub mod Command
 pub mod Evidence
 pub mod Fault
 pub mod Headline
+pub mod Limits
 pub mod Lines
 pub mod Lookup
 pub mod Ran

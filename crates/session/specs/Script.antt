@@ -9,7 +9,7 @@ use Rattle.command_words.specs.declared.fault.LineFault.{LineFault}
 use Rattle.session.specs.Command.{command_text}
 use Rattle.session.specs.Fault.{fault_text}
 use Rattle.session.specs.Lines.{cut_lines, lines_of}
-use Rattle.session.specs.declared.script.TheConstants.{MAX_SCRIPT}
+use Rattle.session.specs.Limits.{most_script}
 
 -- what a line's command prints
 abbrev pub text_of : Evidence → Result Command LineFault → List ℕ
@@ -42,7 +42,7 @@ through_quit script = joined_through_quit (cut_lines script).whole (cut_lines sc
 
 -- so many bytes are run whole
 abbrev pub is_short : List ℕ → Bool
-is_short bytes = nat_le (length bytes) MAX_SCRIPT
+is_short bytes = nat_le (length bytes) most_script
 
 -- The texts of the lines of bytes. Where there are too many, the texts of the lines whose newline stands within those
 -- that are read, and a line that says so.
@@ -50,8 +50,8 @@ unfoldable pub script_text : Evidence → List ℕ → List ℕ
 script_text evidence bytes =
     if is_short bytes
     then texts_of evidence (lines_of bytes)
-    else texts_of evidence (cut_lines (take MAX_SCRIPT bytes)).whole ++ codes "script too long\n"
+    else texts_of evidence (cut_lines (take most_script bytes)).whole ++ codes "script too long\n"
 
 -- how much is taken: all, or one byte more than may be read
 unfoldable pub script_taken : List ℕ → List ℕ
-script_taken bytes = if is_short bytes then bytes else take (MAX_SCRIPT + 1) bytes
+script_taken bytes = if is_short bytes then bytes else take (most_script + 1) bytes

@@ -6,7 +6,7 @@ use Rattle.command_words.specs.declared.command.Command.{Command}
 use Rattle.session.specs.Script.{line_text, texts_of, ends_script, is_quit}
 use Rattle.session.specs.declared.command.Flow.{Flow}
 use Rattle.session.specs.declared.command.Flow.TheVariants.{NextLine, Quit}
-use Rattle.session.specs.declared.line_buffer.TheConstants.{LINE_ROOM}
+use Rattle.session.specs.Limits.{line_room}
 
 -- a newline runs the line
 abbrev pub turn_text : Evidence → List ℕ → ℕ → List ℕ
@@ -14,7 +14,7 @@ turn_text evidence line byte = if byte == 10 then line_text evidence line else [
 
 -- the line after it
 abbrev pub turn_line : List ℕ → ℕ → List ℕ
-turn_line line byte = if byte == 10 then [] else take LINE_ROOM (line ++ byte ∷ [])
+turn_line line byte = if byte == 10 then [] else take line_room (line ++ byte ∷ [])
 
 abbrev pub flow_by : Bool → Flow
 flow_by true = Quit

@@ -1,14 +1,15 @@
 //! The top call: a run of a script over an image and a symbol file.
-ghost use Rattle.std.specs.Prelude.{◌≡◌, ◌≤◌, ◌⊎◌, map, string_bytes, IfSome};
+ghost use Rattle.std.specs.Prelude.{◌≡◌, ◌+◌, ◌≤◌, ◌⊎◌, map, string_bytes, IfSome};
 ghost use Rattle.std.specs.Io.KnownBytes.{Appends, Consumes};
 ghost use Rattle.layer_base.specs.Counts.{HasCause};
 ghost use Rattle.layer_base.specs.Known.{AppendsPrefix};
 ghost use Rattle.layer_base.specs.SameLayer.{IsSameLayer};
 ghost use Rattle.layer_base.specs.View.{physical};
-ghost use Rattle.isf_reader.specs.Table.{table_of};
+ghost use Rattle.isf_reader.specs.Table.{most_bytes, table_of};
 ghost use Rattle.session.specs.Causes.{NothingFailed};
 ghost use Rattle.session.specs.Evidence.{table_in, evidence_in, evidence_over};
-ghost use Rattle.session.specs.Headline.{WhereTold, GavePrefix, HasWholeLines};
+ghost use Rattle.session.specs.Headline.{WhereTold, GaveAtMost, GavePrefix, HasWholeLines};
+ghost use Rattle.session.specs.Limits.{most_script};
 ghost use Rattle.session.specs.Ran.{IsScriptEnd, IsTableEnd, IsRunEnd, RanOver, Took};
 ghost use Rattle.session.specs.Run.{run_of, script_run, table_run, memory_run, stack_run, shown_of, evidence_of};
 ghost use Rattle.session.specs.Stack.{stack_of, attached, KeepsOrAttaches, Shows};
@@ -43,6 +44,7 @@ const KEPT_RUNS: usize = 4096;
 const USAGE: &[u8] = b"usage: memlens IMAGE SYMBOLS [DUMP] [--cache N] [--chunk N]\n";
 
 // Runs the script over what the image shows and the symbol file.
+#[tactic(auto, using(crate::proofs::AtMost::gave_none))]
 fn run_file<Y: Layer, S: Source, O: Sink, L: Ledger>(
     alloc: Global,
     image: Y,
@@ -53,6 +55,7 @@ fn run_file<Y: Layer, S: Source, O: Sink, L: Ledger>(
 ) -> (Status, Y)
     ensures ran { IfSome (Y.view image) (λ view. IfSome (S.left script.old) (λ bytes.
         RanOver (evidence_in view file.now.table.now) (script_run (evidence_in view file.now.table.now) bytes) bytes (S.left script.new) (O.written out.old) (O.written out.new) result.0)) }
+    ensures most_script { GaveAtMost (most_script + 1) (S.left script.old) (S.left script.new) }
     ensures end { IsScriptEnd result.0 }
     ensures layer { IsSameLayer Y.view Y.kind Y.faults Y.calls image result.1 }
     ensures image { HasCause (Y.faults image) (Y.faults result.1) (result.0 ≡ Status.ImageFault) }
@@ -71,6 +74,7 @@ fn run_file<Y: Layer, S: Source, O: Sink, L: Ledger>(
 }
 
 // Makes the index of a table, and runs the script over what the image shows and both.
+#[tactic(auto, using(crate::proofs::AtMost::gave_none))]
 fn run_table<Y: Layer, S: Source, O: Sink, L: Ledger>(
     alloc: Global,
     image: Y,
@@ -81,6 +85,7 @@ fn run_table<Y: Layer, S: Source, O: Sink, L: Ledger>(
 ) -> (Status, Y)
     ensures ran { IfSome (Y.view image) (λ view. IfSome (S.left script.old) (λ bytes.
         RanOver (evidence_in view table.now) (script_run (evidence_in view table.now) bytes) bytes (S.left script.new) (O.written out.old) (O.written out.new) result.0)) }
+    ensures most_script { GaveAtMost (most_script + 1) (S.left script.old) (S.left script.new) }
     ensures end { IsScriptEnd result.0 }
     ensures layer { IsSameLayer Y.view Y.kind Y.faults Y.calls image result.1 }
     ensures image { HasCause (Y.faults image) (Y.faults result.1) (result.0 ≡ Status.ImageFault) }
@@ -94,6 +99,7 @@ fn run_table<Y: Layer, S: Source, O: Sink, L: Ledger>(
 }
 
 // Runs the script over what the image shows and the bytes of the symbol file, or refuses these.
+#[tactic(auto, using(crate::proofs::AtMost::gave_none))]
 fn run_bytes<Y: Layer, S: Source, O: Sink, L: Ledger>(
     alloc: Global,
     image: Y,
@@ -104,6 +110,7 @@ fn run_bytes<Y: Layer, S: Source, O: Sink, L: Ledger>(
 ) -> (Status, Y)
     ensures ran { IfSome (Y.view image) (λ view. IfSome (S.left script.old) (λ bytes.
         RanOver (evidence_in view (table_in (table_of symbols.items))) (table_run (physical view) (table_of symbols.items) bytes) bytes (S.left script.new) (O.written out.old) (O.written out.new) result.0)) }
+    ensures most_script { GaveAtMost (most_script + 1) (S.left script.old) (S.left script.new) }
     ensures end { IsTableEnd result.0 }
     ensures layer { IsSameLayer Y.view Y.kind Y.faults Y.calls image result.1 }
     ensures image { HasCause (Y.faults image) (Y.faults result.1) (result.0 ≡ Status.ImageFault) }
@@ -119,6 +126,7 @@ fn run_bytes<Y: Layer, S: Source, O: Sink, L: Ledger>(
 }
 
 // Takes the symbol file, and runs the script over what it and the image show.
+#[tactic(auto, using(crate::proofs::AtMost::gave_none))]
 fn run_memory<Y: Layer, J: Source, S: Source, O: Sink, L: Ledger>(
     alloc: Global,
     image: Y,
@@ -130,6 +138,8 @@ fn run_memory<Y: Layer, J: Source, S: Source, O: Sink, L: Ledger>(
     ensures ran { WhereTold (Y.view image) (J.left symbols.old) (S.left script.old) (λ view j s.
         RanOver (evidence_over (physical view) j) (memory_run (physical view) j s) s (S.left script.new) (O.written out.old) (O.written out.new) result.0) }
     ensures took { IfSome (J.left symbols.old) (λ j. Took (symbols_taken j) (J.left symbols.old) (J.left symbols.new) result.0) }
+    ensures most_symbols { GaveAtMost (most_bytes + 1) (J.left symbols.old) (J.left symbols.new) }
+    ensures most_script { GaveAtMost (most_script + 1) (S.left script.old) (S.left script.new) }
     ensures end { IsRunEnd result.0 }
     ensures layer { IsSameLayer Y.view Y.kind Y.faults Y.calls image result.1 }
     ensures image { HasCause (Y.faults image) (Y.faults result.1) (result.0 ≡ Status.ImageFault) }
@@ -145,6 +155,7 @@ fn run_memory<Y: Layer, J: Source, S: Source, O: Sink, L: Ledger>(
 }
 
 // Tries the formats on the image, and runs the script over what it shows then.
+#[tactic(auto, using(crate::proofs::AtMost::gave_none))]
 fn run_image<Y: Layer, J: Source, S: Source, O: Sink, L: Ledger>(
     alloc: Global,
     image: Y,
@@ -159,6 +170,8 @@ fn run_image<Y: Layer, J: Source, S: Source, O: Sink, L: Ledger>(
         RanOver (evidence_of formats.now before j) (stack_run (stack_of formats.now before) j s) s (S.left script.new) (O.written out.old) (O.written out.new) result.0) }
     ensures took { WhereTold (Y.view image) (J.left symbols.old) (S.left script.old) (λ before j s.
         Took (stack_run (stack_of formats.now before) j s).symbols_taken (J.left symbols.old) (J.left symbols.new) result.0) }
+    ensures most_symbols { GaveAtMost (most_bytes + 1) (J.left symbols.old) (J.left symbols.new) }
+    ensures most_script { GaveAtMost (most_script + 1) (S.left script.old) (S.left script.new) }
     ensures end { IsRunEnd result.0 }
     ensures layer { KeepsOrAttaches formats.now (Y.view image) (Y.kind image) (Y.view result.1) (Y.kind result.1) }
     ensures shows { IfSome (Y.view image) (λ before. IsAnswer result.0 → Shows (attached formats.now before) (Y.view result.1) (Y.kind result.1)) }
@@ -181,6 +194,7 @@ fn run_image<Y: Layer, J: Source, S: Source, O: Sink, L: Ledger>(
 }
 
 // A run over a layer that may be unboxed.
+#[tactic(auto, using(crate::proofs::AtMost::gave_none))]
 fn run_over<Y: Layer, J: Source, S: Source, O: Sink, L: Ledger>(
     alloc: Global,
     words: &[String],
@@ -196,6 +210,8 @@ fn run_over<Y: Layer, J: Source, S: Source, O: Sink, L: Ledger>(
         RanOver (evidence_of formats.now before j) (run_of (map string_bytes words.now) formats.now before j s) s (S.left script.new) (O.written out.old) (O.written out.new) result.0) }
     ensures took { WhereTold (Y.view image) (J.left symbols.old) (S.left script.old) (λ before j s.
         Took (run_of (map string_bytes words.now) formats.now before j s).symbols_taken (J.left symbols.old) (J.left symbols.new) result.0) }
+    ensures most_symbols { GaveAtMost (most_bytes + 1) (J.left symbols.old) (J.left symbols.new) }
+    ensures most_script { GaveAtMost (most_script + 1) (S.left script.old) (S.left script.new) }
     ensures end { IsRunEnd result.0 }
     ensures layer { KeepsOrAttaches formats.now (Y.view image) (Y.kind image) (Y.view result.1) (Y.kind result.1) }
     ensures shows { IfSome (Y.view image) (λ before. IsAnswer result.0 → Shows (shown_of (map string_bytes words.now) formats.now before) (Y.view result.1) (Y.kind result.1)) }
@@ -244,6 +260,10 @@ pub fn run<J: Source, S: Source, O: Sink, D: Sink, L: Ledger>(
         GavePrefix (J.left symbols.old) (J.left symbols.new) (run_of (map string_bytes words.now) formats.now before j s).symbols_taken) }
     ensures script_given { WhereTold (view image) (J.left symbols.old) (S.left script.old) (λ before j s.
         GavePrefix (S.left script.old) (S.left script.new) (run_of (map string_bytes words.now) formats.now before j s).script_taken) }
+
+    // Of a source that tells what it gives no more than that is taken, whatever the other objects do.
+    ensures most_symbols { GaveAtMost (most_bytes + 1) (J.left symbols.old) (J.left symbols.new) }
+    ensures most_script { GaveAtMost (most_script + 1) (S.left script.old) (S.left script.new) }
 
     // Every line that was read, but for the last, has its whole text in what was written.
     ensures whole_lines { WhereTold (view image) (J.left symbols.old) (S.left script.old) (λ before j s.

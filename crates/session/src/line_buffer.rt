@@ -1,10 +1,10 @@
 //! The line that is being read.
 ghost use Rattle.std.specs.Prelude.{◌≡◌, ◌≤◌, [], ◌∷◌, ◌++◌, take, length};
-ghost use Rattle.session.specs.declared.line_buffer.TheConstants.{LINE_ROOM};
+ghost use Rattle.session.specs.Limits.{line_room};
 
 use std::marker::Model;
 
-/// How many bytes of a line are kept: one more than a line may have, so that a longer one shows.
+/// How many bytes of a line are kept.
 pub(crate) const LINE_ROOM: usize = 4097;
 
 /// The bytes of a line so far, but for those that it has too many.
@@ -16,13 +16,13 @@ pub(crate) struct LineBuffer {
 
 impl Model for LineBuffer {
     ghost use Rattle.std.specs.Prelude.{ℕ, ◌≤◌, List, take};
-    ghost use Rattle.session.specs.declared.line_buffer.TheConstants.{LINE_ROOM};
+    ghost use Rattle.session.specs.Limits.{line_room};
 
     ghost Value = { List ℕ };
 
     ghost view = { λ line. take line.len line.bytes };
 
-    ghost invariant = { λ line. line.len ≤ LINE_ROOM };
+    ghost invariant = { λ line. line.len ≤ line_room };
 }
 
 impl LineBuffer {
@@ -43,7 +43,7 @@ impl LineBuffer {
 
     /// Adds a byte, where there is room.
     pub(crate) fn add(&mut self, byte: u8)
-        ensures { self.new ≡ take LINE_ROOM (self.old ++ byte ∷ []) }
+        ensures { self.new ≡ take line_room (self.old ++ byte ∷ []) }
     {
         if self.len < LINE_ROOM {
             self.bytes[self.len] = byte;

@@ -1,10 +1,12 @@
 //! Running a script: a byte is taken after another, and a line is run before the next is read.
-ghost use Rattle.std.specs.Prelude.{◌≡◌, option_to_list, IsErr, IsErrOf, IsNone, IfOk, IfSome, OnOk, OnErr};
+ghost use Rattle.std.specs.Prelude.{◌≡◌, ◌+◌, option_to_list, IsErr, IsErrOf, IsNone, IfOk, IfSome, OnOk, OnErr};
 ghost use Rattle.std.specs.Io.KnownBytes.{Consumes, Keeps, IsAtEnd};
 ghost use Rattle.layer_base.specs.Counts.{HasCause};
 ghost use Rattle.layer_base.specs.Known.{Writes};
 ghost use Rattle.space_memory.specs.State.{IsSameMemory};
 ghost use Rattle.session.specs.Evidence.{evidence_in};
+ghost use Rattle.session.specs.Headline.{GaveAtMost};
+ghost use Rattle.session.specs.Limits.{most_script};
 ghost use Rattle.session.specs.Ran.{IsScriptEnd, RanOver};
 ghost use Rattle.session.specs.Run.{script_run};
 ghost use Rattle.session.specs.Turn.{turn_text, turn_line, turn_flow, rest_text};
@@ -28,6 +30,7 @@ fn take_byte<S: Source>(script: &mut S) -> Result<Option<u8>, Failed>
     ensures taken { IfOk result (λ byte. Consumes (S.left script.old) (S.left script.new) (option_to_list byte)) }
     ensures end { IfOk result (λ byte. IsNone byte → IsAtEnd (S.left script.new)) }
     ensures err { OnErr result (Keeps (S.left script.old) (S.left script.new)) }
+    ensures most { GaveAtMost 1 (S.left script.old) (S.left script.new) }
     ensures cause { HasCause (S.faults script.old) (S.faults script.new) (IsErr result) }
 {
     let mut byte = [0u8; 1];
@@ -86,6 +89,7 @@ fn run_rest<Y: Layer, O: Sink, L: Ledger>(
 }
 
 /// Runs the lines of a script, one after another through the first `quit`, and writes what they print.
+#[tactic(auto, using(crate::proofs::AtMost::gave_none, crate::proofs::AtMost::gave_more))]
 pub(crate) fn run_script<Y: Layer, S: Source, O: Sink, L: Ledger>(
     alloc: Global,
     memory: &mut Memory<Y>,
@@ -97,6 +101,7 @@ pub(crate) fn run_script<Y: Layer, S: Source, O: Sink, L: Ledger>(
 ) -> Status
     ensures ran { IfSome memory.old.view (λ view. IfSome (S.left script.old) (λ bytes.
         RanOver (evidence_in view file.now.table.now) (script_run (evidence_in view file.now.table.now) bytes) bytes (S.left script.new) (O.written out.old) (O.written out.new) result)) }
+    ensures most { GaveAtMost (most_script + 1) (S.left script.old) (S.left script.new) }
     ensures end { IsScriptEnd result }
     ensures memory { IsSameMemory memory.old memory.new }
     ensures image { HasCause memory.old.faults memory.new.faults (result ≡ Status.ImageFault) }

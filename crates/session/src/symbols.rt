@@ -1,9 +1,10 @@
 //! Taking the symbol file, and the line that refuses it.
-ghost use Rattle.std.specs.Prelude.{◌≡◌, ◌≢◌, ◌<◌, ◌++◌, length, IsErrOf, IfOk, IfSome, OnOk};
+ghost use Rattle.std.specs.Prelude.{◌≡◌, ◌≢◌, ◌<◌, ◌+◌, ◌++◌, length, IsErrOf, IfOk, IfSome, OnOk};
 ghost use Rattle.std.specs.Io.KnownBytes.{Consumes};
 ghost use Rattle.layer_base.specs.Counts.{HasCause};
 ghost use Rattle.layer_base.specs.Known.{Writes};
-ghost use Rattle.session.specs.Headline.{GavePrefix};
+ghost use Rattle.isf_reader.specs.Table.{most_bytes};
+ghost use Rattle.session.specs.Headline.{GaveAtMost, GavePrefix};
 ghost use Rattle.session.specs.Ran.{IsTableEnd};
 ghost use Rattle.session.specs.SymbolFile.{EndsRefused, TakesPiece, symbols_taken, section_word, key_word, name_word, refusal_words, symbols_refusal_text};
 ghost use Rattle.session.specs.declared.symbols.SymbolsFault.TheVariants as faults;
@@ -77,6 +78,7 @@ pub(crate) fn take_symbols<J: Source>(
     ensures bytes { IfSome (J.left symbols.old) (λ held. IfOk result (λ bytes. bytes.items ≡ symbols_taken held)) }
     ensures taken { IfSome (J.left symbols.old) (λ held. OnOk result (Consumes (J.left symbols.old) (J.left symbols.new) (symbols_taken held))) }
     ensures front { IfSome (J.left symbols.old) (λ held. GavePrefix (J.left symbols.old) (J.left symbols.new) (symbols_taken held)) }
+    ensures most { GaveAtMost (most_bytes + 1) (J.left symbols.old) (J.left symbols.new) }
     ensures cause { HasCause (J.faults symbols.old) (J.faults symbols.new) (IsErrOf result SymbolsFault.Failed) }
 {
     let mut piece = zeros(alloc, PIECE)?;

@@ -2,13 +2,13 @@
 use Rattle.std.proofs.Common.{◌≡◌, ℕ, zero, suc, ◌+◌, ◌-◌, ◌%◌, ◌^◌, ◌<◌, ◌≤◌, Bool, true, false, Option, None, Some, refl, subst, arith}
 use Rattle.std.specs.Prelude.{IfSome}
 use Rattle.layer_base.specs.AddressSpace.{AddressSpace}
+use Rattle.layer_base.specs.Mapped.{block_size, Holds, IsAligned}
 use Rattle.layer_base.specs.declared.space.Levels.TheVariants.{Four, Five}
 use Rattle.layer_base.specs.declared.space.Mapped.{Mapped}
 use Rattle.layer_base.specs.declared.space.Space.{Space}
 use Rattle.layer_base.specs.declared.space.Space.TheVariants.{Phys, Paged}
 use Rattle.intel_paging.specs.Block.{block_of}
-use Rattle.intel_paging.specs.Paging.{block_size}
-use Rattle.intel_paging.specs.Walk.{Holds, IsAligned, asks_tables}
+use Rattle.intel_paging.specs.Walk.{asks_tables}
 use Rattle.space_memory.specs.Through.{FitsMemory}
 
 -- an aligned block of a size that divides 2 ^ 64 and is at most 2 ^ 48

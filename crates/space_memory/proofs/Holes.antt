@@ -41,17 +41,6 @@ hole-first memory at done n bytes read absent within =
     let all : done + (n - done) ≡ n = omega arith in
     ap (hole memory at) (sym all) ∙ hole-behind memory at done (n - done) bytes read ∙ hole-here memory (at + done) (n - done) absent (omega arith)
 
--- the bytes that are present in a row, where all are
-pub present_from-all : (memory : AddressSpace) (at n : ℕ) (bytes : List ℕ) → bytes_from memory at n ≡ map Some bytes → present_from memory at n ≡ bytes
-unfolding present_from bytes_from
-present_from-all memory at zero [] read = refl
-present_from-all memory at zero (byte ∷ bytes) read = absurd (cc read)
-present_from-all memory at (suc n) [] read = absurd (cc read)
-present_from-all memory at (suc n) (byte ∷ bytes) read =
-    let front : memory at ≡ Some byte = cc read in
-    let rest : bytes_from memory (at + 1) n ≡ map Some bytes = cc read in
-    ap (λ b. while_present b (present_from memory (at + 1) n)) front ∙ ap (λ l. byte ∷ l) (present_from-all memory (at + 1) n bytes rest)
-
 -- a hole leaves fewer
 pub present_from-fewer : (memory : AddressSpace) (at n a : ℕ) → hole memory at n ≡ Some a → length (present_from memory at n) < n
 unfolding present_from hole

@@ -3,5 +3,4 @@ pub mod Holes
 pub mod Memories
 pub mod Reading
 pub mod Spaces
-pub mod Told
 pub mod Words

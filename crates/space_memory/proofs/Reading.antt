@@ -1,11 +1,11 @@
 -- How the bytes of a read come together from one run after another.
-use Rattle.std.proofs.Common.{Option, ◌≡◌, ℕ, ◌+◌, ◌-◌, ◌*◌, ◌<◌, ◌≤◌, List, ◌++◌, length, map, take, None, Some, sym, ap, ◌∙◌, arith, length-take, length-append}
+use Rattle.std.proofs.Common.{Option, ◌≡◌, ℕ, ◌+◌, ◌-◌, ◌*◌, ◌<◌, ◌≤◌, List, ◌++◌, length, map, take, None, Some, sym, ap, ◌∙◌, arith, length-append}
 use Rattle.std.specs.Prelude.{IfSome}
-use Rattle.std.proofs.Math.Seq.{take-append-add}
 use Rattle.std.proofs.Math.Nat.{mul-le-mul_right}
-use Rattle.std.proofs.lemmas.List.{map-append, take-append-le, take-take, take_all}
+use Rattle.std.proofs.lemmas.List.{map-append, take_all}
 use Rattle.std.proofs.lemmas.Option.{IfSome_then}
 use Rattle.layer_base.specs.AddressSpace.{AddressSpace, bytes_from}
+use Rattle.layer_base.proofs.Buffers.{length-front, front-kept, front-more}
 use Rattle.layer_base.proofs.BytesFrom.{bytes_from-add}
 use Rattle.layer_base.specs.Run.{IsTrueOf}
 use Rattle.layer_base.specs.View.{View, physical}
@@ -15,30 +15,24 @@ use Rattle.space_memory.specs.Hole.{IsGot}
 use Rattle.space_memory.specs.InSpace.{in_space}
 use Rattle.space_memory.specs.declared.memory.Got.TheVariants.{All, Hole}
 use Rattle.space_memory.proofs.Holes.{hole-none, hole-first}
-use Rattle.space_memory.proofs.Told.{IfSome-both}
+use Rattle.layer_base.proofs.Told.{IfSome-both}
 
 -- a run of one byte at least pays for the steps that it took
 pub enough : (done n cost start before now : ℕ) → 1 ≤ n → before ≤ start + done * cost → now ≤ before + cost → now ≤ start + (done + n) * cost
 enough done n cost start before now some so_far took = let paid : 1 * cost ≤ n * cost = mul-le-mul_right cost some in omega (arith, paid)
 
 module _ (memory : AddressSpace) (at done : ℕ) (buf : List ℕ) (inside : done ≤ length buf) (so_far : bytes_from memory at done ≡ map Some (take done buf)) where
-  size : length (take done buf) ≡ done
-  size = omega (arith, length-take done buf)
-
   -- one run more
   more : (n : ℕ) (new rest : List ℕ) → n ≤ length new → bytes_from memory (at + done) n ≡ map Some (take n new) → bytes_from memory at (done + n) ≡ map Some (take (done + n) (take done buf ++ (new ++ rest)))
   more n new rest fits read =
-      let both : take (done + n) (take done buf ++ (new ++ rest)) ≡ take done buf ++ take n new =
-      ap (λ k. take (k + n) (take done buf ++ (new ++ rest))) (sym size) ∙ take-append-add (take done buf) (new ++ rest) n ∙ ap (λ (l : List ℕ). take done buf ++ l) (take-append-le n new rest fits) in
-      bytes_from-add memory at done n ∙ (λ i. so_far i ++ read i) ∙ sym (ap (λ (l : List ℕ). map Some l) both ∙ map-append Some (take done buf) (take n new))
+      bytes_from-add memory at done n ∙ (λ i. so_far i ++ read i) ∙ sym (ap (λ (l : List ℕ). map Some l) (front-more done buf inside n new rest fits) ∙ map-append Some (take done buf) (take n new))
 
   -- a hole behind them
   stopped : (new rest : List ℕ) → 0 < length new → memory (at + done) ≡ None → IsGot memory at (take done buf ++ (new ++ rest)) (Hole (at + done))
   stopped new rest some absent =
       let far : at + done - at ≡ done = omega arith in
-      let within : done < length (take done buf ++ (new ++ rest)) = omega (arith, size, length-append {A = ℕ}) in
-      let front : take done (take done buf ++ (new ++ rest)) ≡ take done buf = take-append-le done (take done buf) (new ++ rest) (omega (arith, size)) ∙ take-take done done buf (omega arith) in
-      (hole-first memory at done (length (take done buf ++ (new ++ rest))) (take done buf) so_far absent within, rw far (so_far ∙ ap (λ (l : List ℕ). map Some l) (sym front)))
+      let within : done < length (take done buf ++ (new ++ rest)) = omega (arith, length-front done buf inside, length-append {A = ℕ}) in
+      (hole-first memory at done (length (take done buf ++ (new ++ rest))) (take done buf) so_far absent within, rw far (so_far ∙ ap (λ (l : List ℕ). map Some l) (sym (front-kept done buf inside (new ++ rest)))))
 
   -- all of them
   whole : length buf ≤ done → IsGot memory at buf All

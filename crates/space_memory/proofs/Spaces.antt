@@ -1,17 +1,15 @@
 -- The laws of the bytes of a space.
-use Rattle.std.proofs.Common.{◌≡◌, ℕ, zero, suc, ◌+◌, ◌-◌, ◌^◌, ◌<◌, ◌≤◌, true, false, inl, inr, nat_lt, List, ◌∷◌, ◌++◌, length, map, take, Option, None, Some, refl, sym, ap, ◌∙◌, arith}
+use Rattle.std.proofs.Common.{◌≡◌, ℕ, ◌+◌, ◌-◌, ◌^◌, ◌<◌, ◌≤◌, true, nat_lt, List, ◌++◌, length, map, take, Option, None, Some, refl, sym, ap, ◌∙◌, arith}
 use Rattle.std.specs.Prelude.{option_map, option_and_then}
-use Rattle.std.proofs.lemmas.Bool.{cases_lt}
 use Rattle.std.proofs.lemmas.Bool.Decides.{nat_tests}
 use Rattle.std.proofs.lemmas.List.{take-append-le}
 use Rattle.layer_base.specs.AddressSpace.{AddressSpace, bytes_from}
-use Rattle.layer_base.specs.View.{View, physical}
+use Rattle.layer_base.specs.Mapped.{Holds}
 use Rattle.layer_base.specs.declared.space.Mapped.{Mapped}
 use Rattle.layer_base.specs.declared.space.Space.{Space}
-use Rattle.layer_base.specs.declared.space.Space.TheVariants.{Phys}
-use Rattle.layer_base.proofs.Stretches.{physical-past}
-use Rattle.intel_paging.specs.Block.{block_of, place_in}
-use Rattle.intel_paging.specs.Walk.{Holds, IsBlock}
+use Rattle.layer_base.proofs.BytesFrom.{bytes_from-moved}
+use Rattle.intel_paging.specs.Block.{place_in}
+use Rattle.intel_paging.specs.Walk.{IsBlock}
 use Rattle.space_memory.specs.InSpace.{in_space}
 
 -- At an address of a block stands the byte at its physical address, and none where the block is mapped to nothing.
@@ -20,29 +18,6 @@ unfolding in_space
 in_space-block memory space run a block holds below =
     let low : nat_lt a (2 ^ 64) ≡ true = grind (arith, nat_tests) in
     rw (low, block a holds) refl
-
--- the space of physical memory is that memory
-pub in_space-Phys : (view : View) → in_space (physical view) Phys ≡ physical view
-unfolding in_space block_of
-in_space-Phys view = λ i a. at_each a i
-  where
-    at_each : (a : ℕ) → in_space (physical view) Phys a ≡ physical view a
-    at_each a = elim (cases_lt a (2 ^ 64)) [
-      | inl below ↦ let low : nat_lt a (2 ^ 64) ≡ true = grind (arith, nat_tests) in let same : 0 + (a - 0) ≡ a = omega arith in rw (low, same) refl
-      | inr above ↦ let high : nat_lt a (2 ^ 64) ≡ false = grind (arith, nat_tests) in rw (high, physical-past view a above) refl
-    ]
-
--- the bytes from one address on are those of another memory from another on
-pub bytes_from-moved : (memory other : AddressSpace) (at place n : ℕ) → ((k : ℕ) → k < n → memory (at + k) ≡ other (place + k)) → bytes_from memory at n ≡ bytes_from other place n
-unfolding bytes_from
-bytes_from-moved memory other at place zero same = refl
-bytes_from-moved memory other at place (suc n) same =
-    let here : memory at ≡ other place = let none : at + 0 ≡ at = omega arith in let there : place + 0 ≡ place = omega arith in rw (none, there) at (same 0 (omega arith)) in
-    let rest : (k : ℕ) → k < n → memory (at + 1 + k) ≡ other (place + 1 + k) = λ k below.
-    let next : at + 1 + k ≡ at + suc k = omega arith in
-    let after : place + 1 + k ≡ place + suc k = omega arith in
-    rw (next, after) (same (suc k) (omega arith)) in
-    λ i. here i ∷ bytes_from-moved memory other (at + 1) (place + 1) n rest i
 
 -- so many addresses further on, the physical address is as many further on
 further : (run : Mapped) (at k : ℕ) → run.first ≤ at → place_in run (at + k) ≡ option_map (λ place. place + k) (place_in run at)

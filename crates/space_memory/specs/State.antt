@@ -1,14 +1,8 @@
 -- What a memory is to its callers.
 use Rattle.std.specs.Prelude.{◌≡◌, ℕ, ◌≤◌, List, Option}
+use Rattle.layer_base.specs.Mapped.{KeptRun}
 use Rattle.layer_base.specs.View.{View}
 use Rattle.layer_base.specs.declared.layer.Kind.{Kind}
-use Rattle.layer_base.specs.declared.space.Mapped.{Mapped}
-use Rattle.layer_base.specs.declared.space.Space.{Space}
-
--- a run of a space that is kept
-pub record KeptRun : Type 0 where
-  pub space : Space
-  pub run : Mapped
 
 -- what the layer below tells, is read as and has counted; how many runs may be kept; and those that are, the one used
 -- last in front, beside the very last run

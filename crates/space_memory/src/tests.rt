@@ -1,9 +1,10 @@
-//! Calls that no command makes yet: buffers and numbers over two pages of a space, read in every cut of the layer.
+//! What no text tells: buffers and numbers over two pages of a space, and how far its runs reach, in every cut of the
+//! layer.
 ghost use Rattle.std.specs.Prelude.{◌≡◌, ◌<◌};
 
 use crate::test_layer::Image;
 use crate::{Got, Memory};
-use layer_base::{Levels, MemDevice, Space, Steps};
+use layer_base::{Levels, MemDevice, Run, Space, Steps};
 use std::alloc::{AllocError, Global};
 use std::marker::Brand;
 use std::process::Abort;
@@ -43,6 +44,33 @@ fn memory(alloc: Global, cut: usize) -> Result<Memory<Image>, Fail> {
     Ok(memory.ok().ok_or("there is memory")?)
 }
 
+// How many bytes a run has, and how far a hole is said to reach: no text tells either.
+fn expect_runs<L: Ledger>(
+    rt: &impl Abort,
+    memory: &mut Memory<Image>,
+    space: Space,
+    cut: usize,
+    steps: &mut Steps<L>,
+) {
+    let mut page = [0; 64];
+    for (at, run) in [
+        (0x1ff0, Run::Present { count: cut.min(16) }),
+        (0x2001, Run::Absent { last: 0x2fff }),
+        (
+            0x0000_8000_0000_0000,
+            Run::Absent {
+                last: 0xffff_7fff_ffff_ffff,
+            },
+        ),
+    ] {
+        assert_eq!(rt;
+            memory.run_at(space, at, &mut page, steps),
+            Ok(run),
+            "at {at}"
+        );
+    }
+}
+
 fn expect_space<L: Ledger>(
     rt: &impl Abort,
     alloc: Global,
@@ -71,6 +99,7 @@ fn expect_space<L: Ledger>(
         Ok(Some(0x0000_0201_5a59_0000))
     );
     assert_eq!(rt; memory.word(space, 0x1ffc, &mut steps), Ok(None));
+    expect_runs(rt, &mut memory, space, cut, &mut steps);
     Ok(())
 }
 

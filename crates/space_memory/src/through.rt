@@ -1,11 +1,11 @@
 //! Reading a piece of a space through what it is mapped to.
 ghost use Rattle.std.specs.Prelude.{◌≡◌, ◌+◌, ◌<◌, ◌≤◌, None, length, IsErr, IfOk, IfSome};
+ghost use Rattle.layer_base.specs.Mapped.{Holds};
 ghost use Rattle.layer_base.specs.Counts.{HasCause};
 ghost use Rattle.layer_base.specs.Run.{IsWithin};
 ghost use Rattle.layer_base.specs.SameLayer.{IsSameLayer};
 ghost use Rattle.layer_base.specs.View.{physical};
 ghost use Rattle.intel_paging.specs.Block.{place_in};
-ghost use Rattle.intel_paging.specs.Walk.{Holds};
 ghost use Rattle.space_memory.specs.Through.{FitsMemory, IsTrueThrough};
 
 use layer_base::{DeviceFailed, Layer, Mapped, Run, room_within};

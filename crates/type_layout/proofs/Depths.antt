@@ -1,13 +1,13 @@
 -- How deep a search goes says nothing where anonymous fields nest less deep.
-use Rattle.std.proofs.Common.{◌≡◌, ℕ, zero, suc, List, [], ◌∷◌, Bool, true, false, ◌||◌, cond, Option, Some, None, IfSome, option_map, nat_cmp, is_eq, refl, sym, ap, ap₂, ◌∙◌}
+use Rattle.std.proofs.Common.{◌≡◌, ℕ, zero, suc, List, [], ◌∷◌, Bool, true, false, ◌||◌, cond, Option, Some, None, IfSome, find, option_map, nat_cmp, is_eq, refl, sym, ap, ap₂, ◌∙◌}
 use Rattle.std.specs.Cmp.Lexicographic.{slice_cmp}
 use Rattle.std.specs.List.{list_any}
 use Rattle.std.specs.Option.{option_or, option_map_or, option_and_then}
-use Rattle.isf_reader.specs.Depth.{entry_named, brings, nests, first_marked, marks_by, first_too_deep}
+use Rattle.isf_reader.specs.Depth.{entry_named, brings, nests, deepest, first_too_deep}
 use Rattle.isf_reader.specs.Table.{Sections, IsTable}
 use Rattle.isf_reader.specs.declared.user_type.Field.{Field}
 use Rattle.isf_reader.specs.declared.user_type.UserType.{UserType}
-use Rattle.type_layout.specs.Member.{Spot, Users, further, user_brought, own_field, first_through, found_in, found, deepest, IsSearchedAlike}
+use Rattle.type_layout.specs.Member.{Spot, Users, further, user_brought, own_field, first_through, found_in, found, IsSearchedAlike}
 
 left_false : (a b : Bool) → (a || b) ≡ false → a ≡ false
 left_false true b h = cc
@@ -49,24 +49,24 @@ no_deeper users name zero user h =
 no_deeper users name (suc depth) user h =
     ap (option_or (own_field name user.fields)) (same_through users (nests users (suc depth)) (found_in users name (suc depth)) (found_in users name depth) (no_deeper users name depth) user.fields h)
 
--- where none is marked, what a name has passes no test
-unmarked_if : {E : Type 0} (test : E → Bool) (b : Bool) (e : E) (o : Option E) → test e ≡ false → IfSome o (λ x. test x ≡ false) → IfSome (cond b (Some e) o) (λ x. test x ≡ false)
-unmarked_if test true e o h more = h
-unmarked_if test false e o h more = more
+-- where no entry passes a test, what a name has does not
+none_passes_if : {E : Type 0} (test : E → Bool) (b : Bool) (e : E) (o : Option E) → test e ≡ false → IfSome o (λ x. test x ≡ false) → IfSome (cond b (Some e) o) (λ x. test x ≡ false)
+none_passes_if test true e o h more = h
+none_passes_if test false e o h more = more
 
-head_unmarked : {A : Type 0} (b : Bool) (a : A) (o : Option A) → cond b (Some a) o ≡ None → b ≡ false
-head_unmarked true a o h = cc
-head_unmarked false a o h = refl
+head_fails : {A B : Type 0} (f : A → B) (b : Bool) (a : A) (o : Option A) → option_map f (cond b (Some a) o) ≡ None → b ≡ false
+head_fails f true a o h = cc
+head_fails f false a o h = refl
 
-tail_unmarked : {A : Type 0} (b : Bool) (a : A) (o : Option A) → cond b (Some a) o ≡ None → o ≡ None
-tail_unmarked true a o h = cc
-tail_unmarked false a o h = h
+tail_fails : {A B : Type 0} (f : A → B) (b : Bool) (a : A) (o : Option A) → option_map f (cond b (Some a) o) ≡ None → option_map f o ≡ None
+tail_fails f true a o h = cc
+tail_fails f false a o h = h
 
-pub unmarked : {E : Type 0} (test : E → Bool) (name : List ℕ) (es : List (List ℕ × E)) → first_marked (marks_by test es) ≡ None → IfSome (entry_named name es) (λ e. test e ≡ false)
-unmarked test name [] h = tt
-unmarked test name (e ∷ es) h =
-    unmarked_if test (is_eq (slice_cmp nat_cmp name e.0)) e.1 (entry_named name es) (head_unmarked (test e.1) e.0 (first_marked (marks_by test es)) h)
-    (unmarked test name es (tail_unmarked (test e.1) e.0 (first_marked (marks_by test es)) h))
+pub none_passes : {E : Type 0} (test : E → Bool) (name : List ℕ) (es : List (List ℕ × E)) → option_map (λ e. e.0) (find (λ e. test e.1) es) ≡ None → IfSome (entry_named name es) (λ e. test e ≡ false)
+none_passes test name [] h = tt
+none_passes test name (e ∷ es) h =
+    none_passes_if test (is_eq (slice_cmp nat_cmp name e.0)) e.1 (entry_named name es) (head_fails (λ e. e.0) (test e.1) e (find (λ e. test e.1) es) h)
+    (none_passes test name es (tail_fails (λ e. e.0) (test e.1) e (find (λ e. test e.1) es) h))
 
 rule_if : (users : Users) (name : List ℕ) (o : Option UserType) → IfSome o (λ user. nests users (suc deepest) user ≡ false) → IfSome o (λ user. found users name user ≡ found_in users name (suc deepest) user)
 rule_if users name None h = tt
@@ -75,4 +75,4 @@ rule_if users name (Some user) h = sym (no_deeper users name deepest user h)
 -- in a table the search goes as deep as anonymous fields nest
 pub searched_alike : (table : Sections) (name : List ℕ) → IsTable table → IsSearchedAlike table.users name
 unfolding first_too_deep found_in
-searched_alike table name h type_name = rule_if table.users name (entry_named type_name table.users) (unmarked (nests table.users 33) type_name table.users h.shallow)
+searched_alike table name h type_name = rule_if table.users name (entry_named type_name table.users) (none_passes (nests table.users (suc deepest)) type_name table.users h.shallow)

@@ -1,7 +1,7 @@
 -- The member of a name.
 use Rattle.std.specs.Prelude.{◌≡◌, ℕ, zero, suc, ◌+◌, List, [], ◌∷◌, Option, Some, None, IfSome, find, option_map, option_and_then, ok_or, Result, Err, bytes_eq}
 use Rattle.std.specs.Option.{option_or}
-use Rattle.isf_reader.specs.Depth.{entry_named, brought_in, user_name}
+use Rattle.isf_reader.specs.Depth.{entry_named, brought_in, user_name, deepest}
 use Rattle.isf_reader.specs.Table.{Sections}
 use Rattle.isf_reader.specs.declared.type_ref.TypeRef.{TypeRef}
 use Rattle.isf_reader.specs.declared.user_type.Field.{Field}
@@ -54,10 +54,6 @@ unfoldable pub found_in : Users → List ℕ → ℕ → UserType → Option Spo
 found_in users name zero user = own_field name user.fields
 found_in users name (suc depth) user = own_or_through (found_in users name depth) users name user
 
--- anonymous fields nest at most so deep in a table
-abbrev pub deepest : ℕ
-deepest = 32
-
 -- where a user type of a table has a name
 abbrev pub found : Users → List ℕ → UserType → Option Spot
 found users name = found_in users name deepest
@@ -72,10 +68,15 @@ abbrev pub member_in : Users → List ℕ → Option UserType → Result Spot Ty
 member_in users name None = Err NoType
 member_in users name (Some user) = ok_or (found users name user) NoMember
 
-abbrev pub member_named : Users → List ℕ → Option (List ℕ) → Result Spot TypeFault
-member_named users name None = Err NotCompound
-member_named users name (Some user) = member_in users name (entry_named user users)
+-- the member of the user type of a name, or its fault
+abbrev pub member_named : Sections → List ℕ → List ℕ → Result Spot TypeFault
+member_named table user name = member_in table.users name (entry_named user table.users)
+
+-- the member of what a descriptor names, where it is a struct, union or class
+abbrev pub member_of : Sections → List ℕ → Option (List ℕ) → Result Spot TypeFault
+member_of table name None = Err NotCompound
+member_of table name (Some user) = member_named table user name
 
 -- the member of a type, or its fault
 abbrev pub member : Sections → TypeRef → List ℕ → Result Spot TypeFault
-member table of name = member_named table.users name (user_name of)
+member table of name = member_of table name (user_name of)

@@ -9,7 +9,7 @@ mod place;
 mod size;
 
 pub use fault::TypeFault;
-pub use members::member;
+pub use members::{member, member_named};
 pub use path::{PathRefusal, resolve};
 pub use place::Place;
 pub use size::size_of;

@@ -1,5 +1,5 @@
 //! Sizes and places, which no command asks for yet, in small symbol files that are written with `'` for `"`.
-use crate::{TypeFault, member, resolve, size_of};
+use crate::{TypeFault, member, member_named, resolve, size_of};
 use isf_reader::{Table, TypeRef};
 use layer_base::Name;
 use sqlite_items::Boxed;
@@ -61,7 +61,7 @@ fn members(rt: HostRuntime) -> Result<(), Fail> {
     let alloc = rt.alloc();
     let probe = read(alloc, PROBE)?;
     let kinds = read(alloc, KINDS)?;
-    for (table, of, member_name, wanted) in [
+    for (table, user, member_name, wanted) in [
         (&probe, "probe", "a", Ok((0, Ok(2)))),
         (&probe, "probe", "f", Ok((2, Ok(1)))),
         (&probe, "probe", "unnamed_field_0", Ok((4, Ok(4)))),
@@ -78,12 +78,17 @@ fn members(rt: HostRuntime) -> Result<(), Fail> {
         (&kinds, "kinds", "gone", Ok((20, Err(TypeFault::NoType)))),
         (&kinds, "nothing", "x", Err(TypeFault::NoType)),
     ] {
-        let of = TypeRef::Union(name(alloc, of)?);
+        let of = TypeRef::Union(name(alloc, user)?);
         let seen = member(table, &of, member_name.as_bytes()).map(|place| (
             place.offset,
             size_of(table, place.of),
         ));
         assert_eq!(rt; seen, wanted, "{member_name}");
+        let named = member_named(table, user.as_bytes(), member_name.as_bytes()).map(|place| (
+            place.offset,
+            size_of(table, place.of),
+        ));
+        assert_eq!(rt; named, wanted, "{member_name} by name");
     }
     Ok(())
 }

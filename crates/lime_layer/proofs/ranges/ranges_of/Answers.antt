@@ -6,8 +6,9 @@ use Rattle.layer_base.specs.Present.{present_from}
 use Rattle.layer_base.specs.View.{physical}
 use Rattle.layer_base.specs.View.View.{File}
 use Rattle.layer_base.specs.declared.segment.Segment.{Segment}
+use Rattle.layer_base.proofs.Told.{IfSome-after}
 use Rattle.lime_layer.specs.declared.header.Header.{Header}
-use Rattle.lime_layer.proofs.Reading.{IsReadTo, read-none, read-end, read-many, read-bad, read-more, both-told}
+use Rattle.lime_layer.proofs.Reading.{IsReadTo, read-none, read-end, read-many, read-bad, read-more}
 use Rattle.lime_layer.proofs.ranges.ranges_of.Goals as goal
 
 at_header : (memory : AddressSpace) (most read above : ℕ) (front : List Segment) (next : Option Header) (header : Header) → next ≡ Some header → IsReadTo memory most read next above front → IsReadTo memory most read (Some header) above front
@@ -42,7 +43,7 @@ loop-preserved g c =
       above = omega (arith, fit.first, fit.most, c.from.ensures);
       same = c.in_ok-next.ensures.same ∙ loop.same;
       kept = omega (arith, loop.kept, c.in_ok-next.ensures.cause.kept);
-      reading = both-told (g.D.Device.held c.args.device.now) (g.D.Device.held c.loop.device) loop.same loop.reading c.in_ok-next.ensures.bytes (λ bytes so_far next is.
+      reading = IfSome-after (g.D.Device.held c.args.device.now) (g.D.Device.held c.loop.device) loop.same loop.reading c.in_ok-next.ensures.bytes (λ bytes so_far next is.
           let more = read-more (physical (File bytes)) 65536 c.loop.counter c.loop.above c.loop.segments c.in-Some.header c.in-Some.header.some c.in-Some.header.within
           (at_header (physical (File bytes)) 65536 c.loop.counter c.loop.above c.loop.segments c.loop.next c.in-Some.header c.in-Some.is (so_far is))
           c.in-Ok.segment c.in_ok-next.next (omega arith) c.in-Ok.ensures.range c.in_ok-next.ensures.place next in

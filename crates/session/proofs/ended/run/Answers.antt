@@ -1,4 +1,4 @@
-use Rattle.std.proofs.Common.{◌≡◌, ◌⊎◌, map}
+use Rattle.std.proofs.Common.{◌≡◌, ◌⊎◌, [], map, refl}
 use Rattle.std.specs.Prelude.{string_bytes}
 use Rattle.std.specs.Io.KnownBytes.{Appends, Consumes}
 use Rattle.layer_base.specs.Known.{AppendsPrefix}
@@ -53,6 +53,11 @@ returns-clause-exact_script g c =
     WhereTold-then _ (g.J.Source.left c.args.symbols.now) (g.S.Source.left c.args.script.now) _
     (λ symbols left view j s. IsAnswer c.run_over-status.result.0 → Consumes left (g.S.Source.left c.run_over-status.new.script) (run_of words c.args.formats.now view j s).script_taken)
     c.run_over-status.ensures.ran (λ view j s ran. ran-exact_script (evidence_of c.args.formats.now view j) (run_of words c.args.formats.now view j s) s (g.S.Source.left c.run_over-status.new.script) (g.O.Sink.written c.args.out.now) (g.O.Sink.written c.run_over-status.new.out) c.run_over-status.result.0 ran)
+
+pub returns-clause-dumped : goal.returns-clause-dumped
+returns-clause-dumped g c =
+    let words = map string_bytes c.args.words.now in
+    WhereTold-each _ (g.J.Source.left c.args.symbols.now) (g.S.Source.left c.args.script.now) (λ symbols left view j s. AppendsPrefix (g.D.Sink.written c.args.dump.now) (g.D.Sink.written c.args.dump.now) (run_of words c.args.formats.now view j s).dumped) (λ view j s. ([], Appends-none (g.D.Sink.written c.args.dump.now), refl))
 
 pub returns-clause-exact_dumped : goal.returns-clause-exact_dumped
 returns-clause-exact_dumped g c =

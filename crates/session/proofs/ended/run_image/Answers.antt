@@ -1,11 +1,12 @@
-use Rattle.std.proofs.Common.{◌≡◌, Err, refl}
+use Rattle.std.proofs.Common.{◌≡◌, Ok, Err, refl}
 use Rattle.std.specs.Prelude.{IfSome}
 use Rattle.session.specs.Ran.{RanOver}
 use Rattle.session.specs.Run.{image_refused, stack_run, evidence_of}
-use Rattle.session.specs.Stack.{stack_of}
+use Rattle.session.specs.Stack.{TriesAs, stack_of}
 use Rattle.session.specs.Status.{status_after}
 use Rattle.session.specs.declared.status.Status.TheVariants.{ImageRefused, ImageFault, Memory}
 use Rattle.session.proofs.Refusals.{line-ended, none-ran}
+use Rattle.session.proofs.Attached.{ran-attached}
 use Rattle.session.proofs.Told.{WhereTold-each, WhereTold-image}
 use Rattle.session.proofs.ended.run_image.Goals as goal
 
@@ -29,3 +30,10 @@ returns-in-Err-Refused-clause-ran g c =
     rw c.status_after.ensures (WhereTold-image (g.Y.Layer.view c.args.image) (g.J.Source.left c.args.symbols.now) (g.S.Source.left c.args.script.now) (λ before. stack_of formats before ≡ Err refusal)
     (λ symbols left before j s. RanOver (evidence_of formats before j) (stack_run (stack_of formats before) j s) s left (g.O.Sink.written c.args.out.now) (g.O.Sink.written c.write_refusal-refused.new.out) (status_after ImageRefused c.write_refusal-refused.result))
     stack (λ before j s is. rw is (line-ended _ (image_refused refusal) refl s _ _ c.write_refusal-refused.result c.write_refusal-refused.ensures.text)))
+
+pub returns-in-Ok-clause-ran : goal.returns-in-Ok-clause-ran
+returns-in-Ok-clause-ran g c =
+    let formats = c.args.formats.now in
+    let image = c.attach_formats.new.image in
+    let stack : IfSome (g.Y.Layer.view c.args.image) (λ before. TriesAs (stack_of formats before) (g.Y.Layer.view image) (g.Y.Layer.kind image) (Ok tt)) = c.in-Ok.ensures.stack in
+    ran-attached formats (g.Y.Layer.kind image) (g.Y.Layer.view c.args.image) (g.Y.Layer.view image) (g.J.Source.left c.args.symbols.now) (g.S.Source.left c.args.script.now) (g.S.Source.left c.run_memory.new.script) (g.O.Sink.written c.args.out.now) (g.O.Sink.written c.run_memory.new.out) c.run_memory.result.0 stack c.run_memory.ensures.ran

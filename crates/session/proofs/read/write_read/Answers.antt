@@ -1,4 +1,4 @@
-use Rattle.std.proofs.Common.{◌≡◌, ◌+◌, [], refl, inl, sym, subst, ◌∙◌, ap, arith}
+use Rattle.std.proofs.Common.{◌≡◌, ◌+◌, ◌/◌, [], refl, inl, sym, subst, ◌∙◌, ap, arith}
 use Rattle.std.specs.Prelude.{IfSome}
 use Rattle.std.specs.Io.{StartsWith}
 use Rattle.std.specs.Io.KnownBytes.{Appends}
@@ -11,6 +11,7 @@ use Rattle.hex_text.specs.DumpRow.{dump_text}
 use Rattle.hex_text.proofs.DumpRows.{dump_text-none, dump_text-next, dump_text-front, whole-rows, whole-pieces}
 use Rattle.space_memory.specs.InSpace.{in_space}
 use Rattle.space_memory.proofs.Memories.{IsSameMemory-refl, IsSameMemory-trans}
+use Rattle.session.specs.declared.read.TheConstants.{PIECE}
 use Rattle.session.proofs.Told.{IfSome-always, IfSome-both}
 use Rattle.session.proofs.read.write_read.Goals as goal
 
@@ -39,7 +40,7 @@ returns-in_err-write-clause-text g c =
     Writes-refused _ _ _ _ c.from_residual.ensures.0 (
     AppendsPrefix-behind _ _ _ (dump_text at (bytes_from memory at done)) (dump_text (at + done) (bytes_from memory (at + done) n)) _ before piece (
     subst (StartsWith (dump_text at (bytes_from memory at c.args.len))) (dump_text-next memory at rows.0 done n rows.1) (
-    dump_text-front memory at (done + n) c.args.len (whole-pieces rows.0 done n c.args.len 4096 rows.1 c.min-n.ensures c.loop-done-test.true) (omega arith)
+    dump_text-front memory at (done + n) c.args.len (whole-pieces rows.0 done n c.args.len (PIECE / 16) rows.1 c.min-n.ensures c.loop-done-test.true) (omega arith)
     )
     )
     ))
@@ -57,7 +58,7 @@ loop-done-preserved g c =
           subst (Appends (g.O.Sink.written c.args.out.now) (g.O.Sink.written c.write.new.out)) (sym (dump_text-next memory at rows.0 done n rows.1)) (
           Appends-append _ _ _ (dump_text at (bytes_from memory at done)) (dump_text (at + done) (bytes_from memory (at + done) n)) before piece
           ));
-      whole = whole-pieces rows.0 done n c.args.len 4096 rows.1 c.min-n.ensures c.loop-done-test.true;
+      whole = whole-pieces rows.0 done n c.args.len (PIECE / 16) rows.1 c.min-n.ensures c.loop-done-test.true;
       within = omega arith;
       memory = IsSameMemory-trans _ _ _ c.loop-done.invariant.memory c.in_ok-write.ensures.memory;
       out = omega (arith, c.loop-done.invariant.out, c.in_ok-write.ensures.out.kept);

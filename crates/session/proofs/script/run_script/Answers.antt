@@ -1,4 +1,4 @@
-use Rattle.std.proofs.Common.{◌≡◌, [], ◌∷◌, refl, sym, ◌∙◌, arith}
+use Rattle.std.proofs.Common.{◌≡◌, ◌+◌, [], ◌∷◌, refl, sym, ◌∙◌, arith}
 use Rattle.std.specs.Prelude.{IfSome}
 use Rattle.std.proofs.lemmas.Option.{IfSome_then}
 use Rattle.layer_base.specs.Known.{AppendsPrefix, Writes}
@@ -6,6 +6,7 @@ use Rattle.session.specs.Evidence.{evidence_in}
 use Rattle.std.specs.Io.KnownBytes.{Appends, Consumes, IsAtEnd}
 use Rattle.session.specs.Turn.{turn_text, rest_text}
 use Rattle.session.proofs.Ending.{script-failed, turn-failed, script-ended, script-quit, script-too_long}
+use Rattle.session.proofs.AtMost.{gave_more}
 use Rattle.space_memory.proofs.Memories.{IsSameMemory-trans}
 use Rattle.session.proofs.Told.{IfSome-both}
 use Rattle.session.proofs.Underway.{Underway-next}
@@ -43,6 +44,7 @@ loop-preserved g c =
       underway = IfSome-both c.args.memory.now.view c.loop.invariant.underway text (λ view told written.
           IfSome_then (g.S.Source.left c.args.script.now) told (λ bytes underway.
           Underway-next (evidence_in view c.args.file.now.table.now) bytes _ _ _ _ _ c.loop.line c.take_in.new.line c.loop.counter c.in-Ok-Some.byte underway taken written c.in-Ok-NextLine.ensures.line (sym c.in-Ok-NextLine.field-0-is ∙ c.in-Ok-NextLine.ensures.flow)));
+      most = gave_more c.loop.counter 1 (c.loop.counter + 1) _ _ _ c.loop.invariant.most c.take_byte.ensures.most (omega arith);
       memory = IsSameMemory-trans _ _ _ c.loop.invariant.memory c.take_in.ensures.memory;
       script = omega (arith, c.loop.invariant.script, c.take_byte.ensures.cause.kept);
       out = omega (arith, c.loop.invariant.out, c.take_in.ensures.out.kept);

@@ -1,5 +1,6 @@
 use Rattle.std.proofs.Common.{◌≤◌}
 use Rattle.std.specs.Prelude.{IfSome}
+use Rattle.session.specs.Headline.{GaveAtMost}
 use Rattle.session.specs.Evidence.{evidence_in}
 use Rattle.space_memory.specs.State.{IsSameMemory}
 use Rattle.session.proofs.Underway.{Underway}
@@ -9,6 +10,7 @@ abbrev pub invariant-loop : goal.invariant-loop
 invariant-loop g l = record {
   underway : IfSome l.fn.memory.view (λ view. IfSome (g.S.Source.left l.fn.script) (λ bytes.
       Underway (evidence_in view l.file.table.now) bytes (g.S.Source.left l.script) (g.O.Sink.written l.fn.out) (g.O.Sink.written l.out) l.line l.counter));
+  most : GaveAtMost l.counter (g.S.Source.left l.fn.script) (g.S.Source.left l.script);
   memory : IsSameMemory l.fn.memory l.memory;
   script : g.S.Source.faults l.fn.script ≤ g.S.Source.faults l.script;
   out : g.O.Sink.faults l.fn.out ≤ g.O.Sink.faults l.out;

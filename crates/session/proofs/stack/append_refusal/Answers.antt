@@ -9,5 +9,5 @@ unfolding refusal_text
 returns c =
     let refusal = c.args.refusal in
     let rest = address_cell refusal.at ++ (codes " " ++ (rule_word refusal.rule ++ codes "\n")) in
-    simp (c.in_ok-push-3.ensures.items, c.in_ok-extend_from_slice-3.ensures.items, c.rule_word.ensures, c.in_ok-push-2.ensures.items, c.in_ok-append_address.ensures, c.in_ok-push.ensures.items, c.in_ok-extend_from_slice-2.ensures.items, c.format_word.ensures, c.in_ok-extend_from_slice.ensures.items, append_assoc)
+    simp (c.in_ok-push-3.ensures.items, c.in_ok-extend_from_slice-3.ensures.items, c.rule_word.ensures, c.in_ok-push-2.ensures.items, c.in_ok-append_address.ensures.ok, c.in_ok-push.ensures.items, c.in_ok-extend_from_slice-2.ensures.items, c.format_word.ensures, c.in_ok-extend_from_slice.ensures.items, append_assoc)
     (ap (λ (l : List ℕ). c.args.text.now.items ++ (codes "image refused: " ++ l)) (sym (append_assoc (format_word refusal.format) (codes " ") rest)))

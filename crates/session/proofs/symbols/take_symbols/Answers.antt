@@ -1,4 +1,5 @@
 use Rattle.std.proofs.Common.{◌≤◌, ◌++◌, length, arith, length-append, length-take}
+use Rattle.session.proofs.AtMost.{gave_given}
 use Rattle.session.proofs.Taking.{Given-more, taken-front, taken-most, taken-whole, taken-exactly}
 use Rattle.session.proofs.symbols.take_symbols.Goals as goal
 
@@ -53,3 +54,12 @@ returns-then-not-branch-clause-taken g c =
     let few : length bytes ≤ 134217729 = omega (arith, took.few, length-append c.loop-bytes.bytes.items took.given, length-take c.min-room.result c.deref_mut.result.now) in
     let given = Given-more old (g.J.Source.left c.loop-bytes.symbols) new c.loop-bytes.bytes.items took.given loop.given took.consumed in
     taken-exactly old new bytes (taken-whole old new bytes few given (took.end c.if-not-branch.true)) given
+
+pub returns-in_err-take_piece-clause-most : goal.returns-in_err-take_piece-clause-most
+returns-in_err-take_piece-clause-most g c =
+    let loop = c.loop-bytes.invariant in
+    let took = c.in_err-take_piece.ensures.taken in
+    let old = g.J.Source.left c.args.symbols.now in
+    let new = g.J.Source.left c.take_piece.new.symbols in
+    let few : length (c.loop-bytes.bytes.items ++ took.given) ≤ 134217729 = omega (arith, took.few, length-append c.loop-bytes.bytes.items took.given, length-take c.min-room.result c.deref_mut.result.now) in
+    gave_given 134217729 old new (c.loop-bytes.bytes.items ++ took.given) (Given-more old (g.J.Source.left c.loop-bytes.symbols) new c.loop-bytes.bytes.items took.given loop.given took.consumed) few

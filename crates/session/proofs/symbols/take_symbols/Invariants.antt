@@ -1,4 +1,5 @@
 use Rattle.std.proofs.Common.{◌≡◌, ◌-◌, ◌≤◌, length}
+use Rattle.session.specs.declared.symbols.TheConstants.{PIECE}
 use Rattle.session.proofs.Taking.{Given}
 use Rattle.session.proofs.symbols.take_symbols.Given as goal
 
@@ -6,7 +7,7 @@ abbrev pub invariant-loop-bytes : goal.invariant-loop-bytes
 invariant-loop-bytes g l = record {
   given : Given (g.J.Source.left l.fn.symbols) (g.J.Source.left l.symbols) l.bytes.items;
   within : length l.bytes.items ≤ 134217729;
-  piece : length l.piece.items ≡ 1048576;
+  piece : length l.piece.items ≡ PIECE;
   kept : g.J.Source.faults l.fn.symbols ≤ g.J.Source.faults l.symbols;
 }
 

@@ -4,7 +4,7 @@ use Rattle.std.proofs.lemmas.Option.{IfSome_then}
 use Rattle.layer_base.specs.View.{physical}
 use Rattle.layer_base.specs.Run.{IsTrueOf}
 use Rattle.layer_base.specs.declared.layer.Run.TheVariants.{Present, Absent}
-use Rattle.space_memory.proofs.Told.{IfSome-always}
+use Rattle.layer_base.proofs.Told.{IfSome-always}
 use Rattle.space_memory.proofs.Spaces.{unmapped, present, absent}
 use Rattle.space_memory.proofs.through.run_in.Goals as goal
 

@@ -8,7 +8,7 @@ use Rattle.intel_paging.specs.Walk.{levels_of}
 use Rattle.space_memory.specs.InSpace.{in_space}
 use Rattle.space_memory.proofs.Memories.{IsSameMemory-refl, IsSameMemory-trans}
 use Rattle.space_memory.proofs.Reading.{enough, read-present, read-absent, read-all}
-use Rattle.space_memory.proofs.Told.{IfSome-always}
+use Rattle.layer_base.proofs.Told.{IfSome-always}
 use Rattle.space_memory.proofs.memory.Memory.read.Goals as goal
 
 pub loop-done-init : goal.loop-done-init

@@ -1,4 +1,3 @@
-use Rattle.std.proofs.Common.{sym}
 use Rattle.std.specs.Prelude.{IfSome}
 use Rattle.std.proofs.lemmas.Option.{IfSome_then}
 use Rattle.layer_base.specs.View.{physical}
@@ -16,4 +15,4 @@ returns-in-All-clause-word g c =
 pub returns-in-Hole-clause-word : goal.returns-in-Hole-clause-word
 returns-in-Hole-clause-word g c =
     let read : IfSome c.args.self.now.view (λ view. IsGot (in_space (physical view) c.args.space) c.args.at c.read.new.buf (Hole c.in-Hole.at)) = rw c.in-Hole.is at c.in_ok-read.ensures.got in
-    IfSome_then c.args.self.now.view read (λ view got. sym (word-hole (in_space (physical view) c.args.space) c.args.at c.read.new.buf c.read.auto.buf c.in-Hole.at got))
+    IfSome_then c.args.self.now.view read (λ view got. word-hole (in_space (physical view) c.args.space) c.args.at c.read.new.buf c.read.auto.buf c.in-Hole.at got)

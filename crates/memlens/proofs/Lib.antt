@@ -1,0 +1,2 @@
+mod HandedOn
+mod ReadAhead

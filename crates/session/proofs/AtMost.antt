@@ -1,0 +1,29 @@
+-- That a source gave at most so many bytes.
+use Rattle.std.proofs.Common.{ℕ, ◌+◌, ◌≤◌, List, [], ◌++◌, length, Option, None, Some, arith, length-append}
+use Rattle.std.proofs.KnownBytes.{Consumes-nil, Consumes-trans, Consumes-kept}
+use Rattle.std.specs.Io.KnownBytes.{Consumes, Keeps}
+use Rattle.session.specs.Headline.{GaveAtMost}
+use Rattle.session.proofs.Taking.{Given}
+
+-- one that was not called gave none
+pub gave_none : (most : ℕ) (left : Option (List ℕ)) → GaveAtMost most left left
+gave_none most left = record { given = []; consumed = Consumes-nil left; few = omega arith }
+
+pub gave_kept : (most : ℕ) (old mid new : Option (List ℕ)) → GaveAtMost most old mid → Keeps mid new → GaveAtMost most old new
+gave_kept most old mid new first kept = record { given = first.given; consumed = Consumes-kept old mid new first.given first.consumed kept; few = first.few }
+
+-- it gave more
+pub gave_more : (m n most : ℕ) (old mid new : Option (List ℕ)) → GaveAtMost m old mid → GaveAtMost n mid new → m + n ≤ most → GaveAtMost most old new
+gave_more m n most old mid new first second within =
+    record {
+      given = first.given ++ second.given;
+      consumed = Consumes-trans old mid new first.given second.given first.consumed second.consumed;
+      few = omega (arith, length-append first.given second.given, first.few, second.few, within);
+    }
+
+pub gave_given : (most : ℕ) (old new : Option (List ℕ)) (bytes : List ℕ) → Given old new bytes → length bytes ≤ most → GaveAtMost most old new
+gave_given most old new bytes given few = record { given = bytes; consumed = consumed old new bytes given; few = few }
+  where
+    consumed : (old new : Option (List ℕ)) (bytes : List ℕ) → Given old new bytes → Consumes old new bytes
+    consumed None new bytes given = tt
+    consumed (Some held) new bytes given = given
