@@ -69,7 +69,16 @@ fn run_file<Y: Layer, S: Source, O: Sink, D: Sink, L: Ledger>(
         Ok(memory) => {
             let mut memory = memory;
             let mut page = Page::new(alloc);
-            let status = run_script(alloc, &mut memory, file, &mut page, script, out, dump, steps);
+            let status = run_script(
+                alloc,
+                &mut memory,
+                file,
+                &mut page,
+                script,
+                out,
+                dump,
+                steps,
+            );
             (status, memory.into_layer())
         }
         Err(refused) => (Status::Memory, refused.phys),
@@ -300,6 +309,8 @@ pub fn run<J: Source, S: Source, O: Sink, D: Sink, L: Ledger>(
         (O.faults out.old) (O.faults out.new) (D.faults dump.old) (D.faults dump.new)
         → (result.status ≡ (run_of (map string_bytes words.now) formats.now before j s).status) ⊎ (result.status ≡ Status.Memory)) }
 {
-    let (status, layer) = run_over(alloc, words, image, formats, symbols, script, out, dump, steps);
+    let (status, layer) = run_over(
+        alloc, words, image, formats, symbols, script, out, dump, steps,
+    );
     Ended { status, layer }
 }
