@@ -1,9 +1,13 @@
--- That a source gave at most so many bytes.
-use Rattle.std.proofs.Common.{ℕ, ◌+◌, ◌≤◌, List, [], ◌++◌, length, Option, None, Some, arith, length-append}
+-- What a source gave: a front of what it held, and at most so many bytes.
+use Rattle.std.proofs.Common.{◌≡◌, ℕ, ◌+◌, ◌≤◌, List, [], ◌++◌, length, Option, None, Some, arith, length-append}
 use Rattle.std.proofs.KnownBytes.{Consumes-nil, Consumes-trans, Consumes-kept}
 use Rattle.std.specs.Io.KnownBytes.{Consumes, Keeps}
 use Rattle.session.specs.Headline.{GaveAtMost}
-use Rattle.session.proofs.Taking.{Given}
+
+-- what was given is a front of what was there
+pub Consumes-front : (held : List ℕ) (left : Option (List ℕ)) (given : List ℕ) → Consumes (Some held) left given → (more : List ℕ) × (held ≡ given ++ more)
+Consumes-front held None given taken = absurd taken
+Consumes-front held (Some more) given taken = (more, taken)
 
 -- one that was not called gave none
 pub gave_none : (most : ℕ) (left : Option (List ℕ)) → GaveAtMost most left left
@@ -20,10 +24,3 @@ gave_more m n most old mid new first second within =
       consumed = Consumes-trans old mid new first.given second.given first.consumed second.consumed;
       few = omega (arith, length-append first.given second.given, first.few, second.few, within);
     }
-
-pub gave_given : (most : ℕ) (old new : Option (List ℕ)) (bytes : List ℕ) → Given old new bytes → length bytes ≤ most → GaveAtMost most old new
-gave_given most old new bytes given few = record { given = bytes; consumed = consumed old new bytes given; few = few }
-  where
-    consumed : (old new : Option (List ℕ)) (bytes : List ℕ) → Given old new bytes → Consumes old new bytes
-    consumed None new bytes given = tt
-    consumed (Some held) new bytes given = given

@@ -5,23 +5,29 @@ use Rattle.layer_base.specs.View.{View, physical}
 use Rattle.layer_base.specs.declared.layer.Kind.{Kind}
 use Rattle.session.specs.Evidence.{evidence_over}
 use Rattle.session.specs.Headline.{WhereTold}
+use Rattle.session.specs.Line.{line_said}
+use Rattle.session.specs.Outcome.{Outcome}
 use Rattle.session.specs.Ran.{RanOver}
 use Rattle.session.specs.Run.{memory_run, stack_run, evidence_of}
 use Rattle.session.specs.Stack.{Shown, TriesAs, shown_by, stack_of}
 use Rattle.session.specs.declared.stack.Refusal.{Refusal}
 use Rattle.session.specs.declared.status.Status.{Status}
 
-module _ (formats : List Kind) (kind : Kind) where
+module _ (formats : List Kind) (kind : Kind) (symbols script left out out' dump dump' : Option (List ℕ)) (end : Status) where
+  -- the run over a view
+  abbrev RanIn : View → Outcome → List ℕ → List ℕ → Type 0
+  RanIn view outcome j s = RanOver (line_said (evidence_over (physical view) j)) outcome s left out out' dump dump' end
+
   -- it is the run over what the formats give
-  pub ran-attached : (view view' : Option View) (symbols script left out out' : Option (List ℕ)) (end : Status)
+  pub ran-attached : (view view' : Option View)
       → IfSome view (λ before. TriesAs (stack_of formats before) view' kind (Ok tt))
-      → WhereTold view' symbols script (λ view j s. RanOver (evidence_over (physical view) j) (memory_run (physical view) j s) s left out out' end)
-      → WhereTold view symbols script (λ before j s. RanOver (evidence_of formats before j) (stack_run (stack_of formats before) j s) s left out out' end)
-  ran-attached None view' symbols script left out out' end tries ran = tt
-  ran-attached (Some before) view' symbols script left out out' end tries ran =
-      by_stack (stack_of formats before) tries.0 tries.1 (subst (λ view. WhereTold view symbols script (λ view j s. RanOver (evidence_over (physical view) j) (memory_run (physical view) j s) s left out out' end)) tries.2.0 ran)
+      → WhereTold view' symbols script (λ view j s. RanOver (line_said (evidence_over (physical view) j)) (memory_run (physical view) j s) s left out out' dump dump' end)
+      → WhereTold view symbols script (λ before j s. RanOver (line_said (evidence_of formats before j)) (stack_run (stack_of formats before) j s) s left out out' dump dump' end)
+  ran-attached None view' tries ran = tt
+  ran-attached (Some before) view' tries ran =
+      by_stack (stack_of formats before) tries.0 tries.1 (subst (λ view. WhereTold view symbols script (λ view j s. RanIn view (memory_run (physical view) j s) j s)) tries.2.0 ran)
     where
       by_stack : (stack : Result Shown Refusal) (shown : Shown) → stack ≡ Ok shown
-          → WhereTold (Some shown.view) symbols script (λ view j s. RanOver (evidence_over (physical view) j) (memory_run (physical view) j s) s left out out' end)
-          → WhereTold (Some before) symbols script (λ before' j s. RanOver (evidence_over (physical (shown_by before stack).view) j) (stack_run stack j s) s left out out' end)
-      by_stack stack shown is ran = subst (λ stack. WhereTold (Some before) symbols script (λ before' j s. RanOver (evidence_over (physical (shown_by before stack).view) j) (stack_run stack j s) s left out out' end)) (sym is) ran
+          → WhereTold (Some shown.view) symbols script (λ view j s. RanIn view (memory_run (physical view) j s) j s)
+          → WhereTold (Some before) symbols script (λ before' j s. RanIn (shown_by before stack).view (stack_run stack j s) j s)
+      by_stack stack shown is ran = subst (λ stack. WhereTold (Some before) symbols script (λ before' j s. RanIn (shown_by before stack).view (stack_run stack j s) j s)) (sym is) ran

@@ -1,33 +1,34 @@
 -- A line of which the bytes that are too many are not kept.
-use Rattle.std.proofs.Common.{◌≡◌, ℕ, ◌<◌, true, ltb, List, [], ◌∷◌, ◌++◌, length, take, refl, sym, ◌∙◌, ap, ⊎_elim, arith, length-take}
+use Rattle.std.proofs.Common.{◌≡◌, ℕ, Bool, cond, eqb, List, [], ◌∷◌, ◌++◌, length, take, refl, sym, ◌∙◌, ap, ⊎_elim, arith, length-take}
 use Rattle.std.proofs.lemmas.Bool.{cases_lt}
-use Rattle.std.proofs.lemmas.Bool.Decides.{nat_tests}
 use Rattle.std.proofs.lemmas.List.{take_all, take_at, take-append-le}
-use Rattle.std.specs.Prelude.{Err}
-use Rattle.session.specs.Evidence.{Evidence}
-use Rattle.command_words.specs.Line.{command_of}
-use Rattle.command_words.specs.declared.fault.LineFault.TheVariants.{TooLong}
-use Rattle.session.specs.Script.{line_text, text_of, ends_script, is_quit}
-use Rattle.session.specs.Turn.{rest_text}
 use Rattle.session.specs.Limits.{line_room}
+use Rattle.session.specs.Said.{Said, text_part, dump_part}
+use Rattle.session.specs.Turn.{turn_part, rest_part}
 
-too_long : (line : List ℕ) → 4096 < length line → command_of line ≡ Err TooLong
-too_long line long = let longer : ltb 4096 (length line) ≡ true = grind (arith, nat_tests) in rw longer refl
+-- a part of what it says is the same
+abbrev pub ClipsPart : (List ℕ → List ℕ) → Type 0
+ClipsPart part = (line : List ℕ) → part (take line_room line) ≡ part line
 
-command_of-clipped : (line : List ℕ) → command_of (take line_room line) ≡ command_of line
-command_of-clipped line = ⊎_elim
-    (λ long. too_long (take line_room line) (omega (arith, length-take line_room line)) ∙ sym (too_long line (omega (arith, long))))
-    (λ short. ap command_of (take_all line_room line short)) (cases_lt line_room (length line))
+-- it says the same, and ends a script just where the line does
+pub record Clips (says : List ℕ → Said) (quits : List ℕ → Bool) : Type 0 where
+  pub same_said : (line : List ℕ) → says (take line_room line) ≡ says line
+  pub same_end : (line : List ℕ) → quits (take line_room line) ≡ quits line
 
-pub line_text-clipped : (evidence : Evidence) (line : List ℕ) → line_text evidence (take line_room line) ≡ line_text evidence line
-line_text-clipped evidence line = ap (text_of evidence) (command_of-clipped line)
+module _ (says : List ℕ → Said) (quits : List ℕ → Bool) (clips : Clips says quits) where
+  pub text-clips : ClipsPart (text_part says)
+  text-clips line = ap (λ said. said.text) (clips.same_said line)
 
-pub is_quit-clipped : (line : List ℕ) → is_quit (take line_room line) ≡ is_quit line
-is_quit-clipped line = ap ends_script (command_of-clipped line)
+  pub dump-clips : ClipsPart (dump_part says)
+  dump-clips line = ap (λ said. said.dumped) (clips.same_said line)
 
-pub rest_text-clipped : (evidence : Evidence) (line : List ℕ) → rest_text evidence (take line_room line) ≡ rest_text evidence line
-rest_text-clipped evidence [] = refl
-rest_text-clipped evidence (byte ∷ bytes) = ap (λ (text : List ℕ). text ++ []) (line_text-clipped evidence (byte ∷ bytes))
+module _ (part : List ℕ → List ℕ) (clips : ClipsPart part) where
+  pub turn_part-clipped : (line : List ℕ) (byte : ℕ) → turn_part part (take line_room line) byte ≡ turn_part part line byte
+  turn_part-clipped line byte = ap (λ (said : List ℕ). cond (eqb byte 10) said []) (clips line)
+
+  pub rest_part-clipped : (line : List ℕ) → rest_part part (take line_room line) ≡ rest_part part line
+  rest_part-clipped [] = refl
+  rest_part-clipped (byte ∷ bytes) = ap (λ (said : List ℕ). said ++ []) (clips (byte ∷ bytes))
 
 pub clipped-push : (line : List ℕ) (byte : ℕ) → take line_room (line ++ byte ∷ []) ≡ take line_room (take line_room line ++ byte ∷ [])
 clipped-push line byte = ⊎_elim

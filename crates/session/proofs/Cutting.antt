@@ -34,19 +34,19 @@ cut-push (first ∷ bytes) byte =
 -- ---- two texts cut as one
 
 -- lines with their newlines
-abbrev pub ended : List (List ℕ) → List ℕ
-ended [] = []
-ended (line ∷ lines) = line ++ 10 ∷ ended lines
+abbrev pub with_newlines : List (List ℕ) → List ℕ
+with_newlines [] = []
+with_newlines (line ∷ lines) = line ++ 10 ∷ with_newlines lines
 
 -- a cut loses nothing
-pub cut-joined : (bytes : List ℕ) → ended (cut_lines bytes).whole ++ (cut_lines bytes).rest ≡ bytes
+pub cut-joined : (bytes : List ℕ) → with_newlines (cut_lines bytes).whole ++ (cut_lines bytes).rest ≡ bytes
 cut-joined [] = refl
 cut-joined (byte ∷ bytes) = ap joined (cut-cons byte bytes) ∙ at_byte (eqb byte 10) refl (cut_lines bytes).whole (cut_lines bytes).rest (cut-joined bytes)
   where
     joined : Lines → List ℕ
-    joined lines = ended lines.whole ++ lines.rest
+    joined lines = with_newlines lines.whole ++ lines.rest
 
-    at_byte : (newline : Bool) → eqb byte 10 ≡ newline → (whole : List (List ℕ)) (rest : List ℕ) → ended whole ++ rest ≡ bytes → joined (fronted newline byte (record { whole = whole; rest = rest })) ≡ byte ∷ bytes
+    at_byte : (newline : Bool) → eqb byte 10 ≡ newline → (whole : List (List ℕ)) (rest : List ℕ) → with_newlines whole ++ rest ≡ bytes → joined (fronted newline byte (record { whole = whole; rest = rest })) ≡ byte ∷ bytes
     at_byte true is whole rest so_far = let ten : byte ≡ 10 = grind (arith, nat_tests) in ap (λ (l : List ℕ). 10 ∷ l) so_far ∙ ap (λ b. b ∷ bytes) (sym ten)
     at_byte false is [] rest so_far = ap (λ (l : List ℕ). byte ∷ l) so_far
     at_byte false is (line ∷ lines) rest so_far = ap (λ (l : List ℕ). byte ∷ l) so_far

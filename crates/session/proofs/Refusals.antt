@@ -1,17 +1,18 @@
 -- A run that ends before the script is read.
 use Rattle.std.proofs.Common.{◌≡◌, ℕ, true, false, List, [], Option, Some, Result, Ok, Err, refl, sym}
+use Rattle.std.proofs.KnownBytes.{Consumes-nil}
 use Rattle.layer_base.specs.AddressSpace.{AddressSpace}
-use Rattle.session.specs.Evidence.{Evidence}
 use Rattle.layer_base.specs.Known.{Writes}
 use Rattle.layer_base.specs.View.{View}
 use Rattle.layer_base.specs.declared.layer.Kind.{Kind}
-use Rattle.layer_base.proofs.Appending.{Appends-none, StartsWith-from}
 use Rattle.isf_reader.specs.Table.{Sections, RefusesAs}
 use Rattle.isf_reader.specs.declared.refusal.IsfRefusal.{IsfRefusal}
 use Rattle.isf_reader.specs.declared.refusal.IsfRefusal.TheVariants as refusals
 use Rattle.session.specs.Headline.{GavePrefix}
 use Rattle.session.specs.Ran.{RanOver, Took}
-use Rattle.session.specs.Run.{Outcome, refused, symbols_refused, table_run, stack_run, run_of}
+use Rattle.session.specs.Outcome.{Outcome}
+use Rattle.session.specs.Said.{Said, text_part, dump_part}
+use Rattle.session.specs.Run.{refused, symbols_refused, table_run, stack_run, run_of}
 use Rattle.session.specs.Stack.{stack_of}
 use Rattle.session.specs.Status.{IsAnswer, status_after}
 use Rattle.session.specs.SymbolFile.{EndsRefused}
@@ -19,8 +20,8 @@ use Rattle.session.specs.Words.{are_accepted}
 use Rattle.session.specs.declared.status.CommandFault.{CommandFault}
 use Rattle.session.specs.declared.status.Status.{Status}
 use Rattle.session.specs.declared.status.Status.TheVariants as status
-use Rattle.session.proofs.Ending.{piece_of, fault_is_no_answer}
-use Rattle.session.proofs.Projections.{Consumes-none}
+use Rattle.session.proofs.Sinks.{part-line, part-none}
+use Rattle.session.proofs.Statuses.{answer-done}
 
 pub run_of-accepted : (words : List (List ℕ)) (formats : List Kind) (view : View) (symbols script : List ℕ) → are_accepted words ≡ true → run_of words formats view symbols script ≡ stack_run (stack_of formats view) symbols script
 unfolding run_of
@@ -30,64 +31,44 @@ pub run_of-refused : (words : List (List ℕ)) (formats : List Kind) (view : Vie
 unfolding run_of
 run_of-refused words formats view symbols script not_accepted = rw not_accepted refl
 
--- A run that takes nothing of the script and has nothing but a line to write ended, or the line was cut short.
-module _ (evidence : Evidence) (outcome : Outcome) (none : outcome.script_taken ≡ []) (script : List ℕ) (out out' : Option (List ℕ)) (result : Result (Unit {0}) CommandFault) where
-  pub line-ended : Writes out out' result outcome.text → RanOver evidence outcome script (Some script) out out' (status_after outcome.status result)
-  line-ended writes =
-      let piece = piece_of out out' outcome.text result writes in (
-        [],
-        piece.piece,
-        refl,
-        piece.written,
-        record {
-          given_prefix = StartsWith-from outcome.script_taken [] [] none;
-          text_prefix = piece.front;
-          lines = refl;
-          lines_at_fault = λ is. refl;
-          status_is = ended result;
-          text_is = λ answered. piece.whole (same_answer result answered);
-          given_is = λ answered. sym none;
-        },
-      )
-    where
-      same_answer : (result : Result (Unit {0}) CommandFault) → IsAnswer (status_after outcome.status result) → IsAnswer (status_after status.Ok result)
-      same_answer (Ok done) answered = tt
-      same_answer (Err fault) answered = answered
-
-      ended : (result : Result (Unit {0}) CommandFault) → IsAnswer (status_after outcome.status result) → status_after outcome.status result ≡ outcome.status
-      ended (Ok done) answered = refl
-      ended (Err fault) answered = absurd (fault_is_no_answer fault answered)
+-- A run that takes nothing of the script, dumps nothing and has nothing but a line to write ended, or the line was cut
+-- short.
+module _ (says : List ℕ → Said) (outcome : Outcome) (none : outcome.script_taken ≡ []) (undumped : outcome.dumped ≡ []) (script : List ℕ) (out out' dump : Option (List ℕ)) (result : Result (Unit {0}) CommandFault) where
+  pub line-ended : Writes out out' result outcome.text → RanOver says outcome script (Some script) out out' dump dump (status_after outcome.status result)
+  line-ended writes = record {
+    given = [];
+    consumed = refl;
+    given_front = refl;
+    given_exact = λ answer. sym none;
+    status_is = answer-done outcome.status result;
+    text = part-line (text_part says) outcome.text out out' outcome.status result writes;
+    dumped = part-none (dump_part says) outcome.dumped dump (status_after outcome.status result) (λ answer. undumped);
+  }
 
 -- A run that a fault of the image or running out of memory ended before the script.
-pub none-ran : (evidence : Evidence) (outcome : Outcome) (script : List ℕ) (out : Option (List ℕ)) (end : Status) → (IsAnswer end → ⊥) → RanOver evidence outcome script (Some script) out out end
-none-ran evidence outcome script out end no_answer = (
-  [],
-  [],
-  refl,
-  Appends-none out,
-  record {
-    given_prefix = refl;
-    text_prefix = refl;
-    lines = refl;
-    lines_at_fault = λ is. refl;
-    status_is = λ answer. absurd (no_answer answer);
-    text_is = λ answer. absurd (no_answer answer);
-    given_is = λ answer. absurd (no_answer answer);
-  },
-)
+pub none-ran : (says : List ℕ → Said) (outcome : Outcome) (script : List ℕ) (out dump : Option (List ℕ)) (end : Status) → (IsAnswer end → ⊥) → RanOver says outcome script (Some script) out out dump dump end
+none-ran says outcome script out dump end no_answer = record {
+  given = [];
+  consumed = refl;
+  given_front = refl;
+  given_exact = λ answer. absurd (no_answer answer);
+  status_is = λ answer. absurd (no_answer answer);
+  text = part-none (text_part says) outcome.text out end (λ answer. absurd (no_answer answer));
+  dumped = part-none (dump_part says) outcome.dumped dump end (λ answer. absurd (no_answer answer));
+}
 
 -- a run that a refused symbol file or running out of memory ended
-pub refused-ran : (evidence : Evidence) (memory : AddressSpace) (wanted : Result Sections IsfRefusal) (refusal : IsfRefusal) (script : List ℕ) (out out' : Option (List ℕ)) (end : Status)
-    → RefusesAs wanted refusal → EndsRefused refusal out out' end → RanOver evidence (table_run memory wanted script) script (Some script) out out' end
-refused-ran evidence memory wanted refusals.Memory script out out' end refuses ends = rw (ends.0, ends.1) (none-ran evidence (table_run memory wanted script) script out status.Memory (λ answer. answer))
-refused-ran evidence memory wanted (refusals.TooLarge len) script out out' end refuses ends = rw (refuses, ends.2) (line-ended evidence (symbols_refused (refusals.TooLarge len)) refl script out out' ends.0 ends.1)
-refused-ran evidence memory wanted refusals.NotJson script out out' end refuses ends = rw (refuses, ends.2) (line-ended evidence (symbols_refused refusals.NotJson) refl script out out' ends.0 ends.1)
-refused-ran evidence memory wanted (refusals.BadEntry section name key) script out out' end refuses ends = rw (refuses, ends.2) (line-ended evidence (symbols_refused (refusals.BadEntry section name key)) refl script out out' ends.0 ends.1)
-refused-ran evidence memory wanted (refusals.AnonDepth name) script out out' end refuses ends = rw (refuses, ends.2) (line-ended evidence (symbols_refused (refusals.AnonDepth name)) refl script out out' ends.0 ends.1)
+pub refused-ran : (says : List ℕ → Said) (memory : AddressSpace) (wanted : Result Sections IsfRefusal) (refusal : IsfRefusal) (script : List ℕ) (out out' dump : Option (List ℕ)) (end : Status)
+    → RefusesAs wanted refusal → EndsRefused refusal out out' end → RanOver says (table_run memory wanted script) script (Some script) out out' dump dump end
+refused-ran says memory wanted refusals.Memory script out out' dump end refuses ends = rw (ends.0, ends.1) (none-ran says (table_run memory wanted script) script out dump status.Memory (λ answer. answer))
+refused-ran says memory wanted (refusals.TooLarge len) script out out' dump end refuses ends = rw (refuses, ends.2) (line-ended says (symbols_refused (refusals.TooLarge len)) refl refl script out out' dump ends.0 ends.1)
+refused-ran says memory wanted refusals.NotJson script out out' dump end refuses ends = rw (refuses, ends.2) (line-ended says (symbols_refused refusals.NotJson) refl refl script out out' dump ends.0 ends.1)
+refused-ran says memory wanted (refusals.BadEntry section name key) script out out' dump end refuses ends = rw (refuses, ends.2) (line-ended says (symbols_refused (refusals.BadEntry section name key)) refl refl script out out' dump ends.0 ends.1)
+refused-ran says memory wanted (refusals.AnonDepth name) script out out' dump end refuses ends = rw (refuses, ends.2) (line-ended says (symbols_refused (refusals.AnonDepth name)) refl refl script out out' dump ends.0 ends.1)
 
 -- nothing was taken of a source, or a run ended without an answer
 pub Took-none : (left : Option (List ℕ)) (end : Status) → Took [] left left end
-Took-none left end = record { front = ([], Consumes-none left, refl); whole = λ answer. Consumes-none left }
+Took-none left end = record { front = ([], Consumes-nil left, refl); whole = λ answer. Consumes-nil left }
 
 pub Took-front : (taken : List ℕ) (left left' : Option (List ℕ)) (end : Status) → GavePrefix left left' taken → (IsAnswer end → ⊥) → Took taken left left' end
 Took-front taken left left' end front no_answer = record { front = front; whole = λ answer. absurd (no_answer answer) }

@@ -1,5 +1,5 @@
 -- A run over the bytes that were taken of a symbol file is the one over the file.
-use Rattle.std.proofs.Common.{◌≡◌, ℕ, ◌<◌, ◌≤◌, true, ltb, List, length, Err, refl, sym, ◌∙◌, ap, ⊎_elim, arith, length-take}
+use Rattle.std.proofs.Common.{◌≡◌, ℕ, ◌<◌, ◌≤◌, true, ltb, List, length, Option, Err, refl, sym, ◌∙◌, ap, ⊎_elim, arith, length-take}
 use Rattle.std.proofs.lemmas.Bool.{cases_lt}
 use Rattle.std.proofs.lemmas.Bool.Decides.{nat_tests}
 use Rattle.std.proofs.lemmas.List.{take_all}
@@ -7,8 +7,12 @@ use Rattle.layer_base.specs.AddressSpace.{AddressSpace}
 use Rattle.isf_reader.specs.Table.{table_of}
 use Rattle.isf_reader.specs.declared.refusal.IsfRefusal.TheVariants.{TooLarge}
 use Rattle.session.specs.Evidence.{table_in}
-use Rattle.session.specs.Run.{symbols_refused, table_run}
+use Rattle.session.specs.Outcome.{Outcome}
+use Rattle.session.specs.Ran.{RanOver}
+use Rattle.session.specs.Run.{symbols_refused, table_run, behind_symbols}
+use Rattle.session.specs.Said.{Said}
 use Rattle.session.specs.SymbolFile.{symbols_taken, symbols_refusal_text}
+use Rattle.session.specs.declared.status.Status.{Status}
 
 -- a file that is too large is refused for that, whatever stands in it
 too-large : (symbols : List ℕ) → 134217728 < length symbols → table_of symbols ≡ Err (TooLarge (length symbols))
@@ -42,3 +46,15 @@ table_in-taken symbols = ⊎_elim
     let taken = length-taken symbols (omega (arith, long)) in
     ap table_in (too-large (symbols_taken symbols) (omega (arith, taken))) ∙ ap table_in (sym (too-large symbols (omega (arith, long)))))
     (λ short. ap (λ l. table_in (table_of l)) (taken-short symbols short)) (cases_lt 134217729 (length symbols))
+
+-- a run whose symbol file was taken before ran as far as without it
+pub ran-behind : (symbols : List ℕ) (says : List ℕ → Said) (outcome : Outcome) (script : List ℕ) (left out out' dump dump' : Option (List ℕ)) (end : Status) → RanOver says outcome script left out out' dump dump' end → RanOver says (behind_symbols symbols outcome) script left out out' dump dump' end
+ran-behind symbols says outcome script left out out' dump dump' end ran = record {
+  given = ran.given;
+  consumed = ran.consumed;
+  given_front = ran.given_front;
+  given_exact = ran.given_exact;
+  status_is = ran.status_is;
+  text = ran.text;
+  dumped = ran.dumped;
+}

@@ -1,32 +1,17 @@
 -- How much of a symbol file was taken.
 use Rattle.std.proofs.Common.{◌≡◌, ℕ, ◌+◌, ◌-◌, ◌≤◌, List, [], ◌++◌, length, take, Option, None, Some, refl, sym, subst, ◌∙◌, ap, arith}
+use Rattle.std.proofs.KnownBytes.{Consumes-all}
 use Rattle.std.proofs.Math.Seq.{take-append-add}
 use Rattle.std.proofs.lemmas.List.{take_all, take_at}
 use Rattle.std.specs.Prelude.{IfSome}
-use Rattle.std.specs.Io.KnownBytes.{Consumes, IsAtEnd, Keeps}
+use Rattle.std.specs.Io.KnownBytes.{Consumes, IsAtEnd}
 use Rattle.layer_base.proofs.Appending.{StartsWith-from}
 use Rattle.session.specs.Headline.{GavePrefix}
 use Rattle.session.specs.SymbolFile.{symbols_taken}
-use Rattle.session.proofs.Underway.{Consumes-append, Consumes-keep, Consumes-front, Consumes-all}
-
--- these bytes were given, where it is told what was there
-abbrev pub Given : Option (List ℕ) → Option (List ℕ) → List ℕ → Type 0
-Given old new bytes = IfSome old (λ held. Consumes old new bytes)
-
-pub Given-none : (old : Option (List ℕ)) → Given old old []
-Given-none None = tt
-Given-none (Some held) = refl
-
-pub Given-more : (old mid new : Option (List ℕ)) (bytes more : List ℕ) → Given old mid bytes → Consumes mid new more → Given old new (bytes ++ more)
-Given-more None mid new bytes more first second = tt
-Given-more (Some held) mid new bytes more first second = Consumes-append held mid new bytes more first second
-
-pub Given-keep : (old mid new : Option (List ℕ)) (bytes : List ℕ) → Given old mid bytes → Keeps mid new → Given old new bytes
-Given-keep None mid new bytes first kept = tt
-Given-keep (Some held) mid new bytes first kept = Consumes-keep held mid new bytes first kept
+use Rattle.session.proofs.AtMost.{Consumes-front}
 
 -- at most so many bytes are a front of what is taken
-pub taken-front : (old new : Option (List ℕ)) (bytes : List ℕ) → length bytes ≤ 134217729 → Given old new bytes → IfSome old (λ held. GavePrefix old new (symbols_taken held))
+pub taken-front : (old new : Option (List ℕ)) (bytes : List ℕ) → length bytes ≤ 134217729 → Consumes old new bytes → IfSome old (λ held. GavePrefix old new (symbols_taken held))
 unfolding symbols_taken
 taken-front None new bytes few given = tt
 taken-front (Some held) new bytes few given =
@@ -36,7 +21,7 @@ taken-front (Some held) new bytes few given =
     (bytes, given, StartsWith-from (take 134217729 held) bytes (take n front.0) (ap (take 134217729) front.1 ∙ ap (λ k. take k (bytes ++ front.0)) all ∙ take-append-add bytes front.0 n))
 
 -- so many bytes are all that is taken
-pub taken-most : (old new : Option (List ℕ)) (bytes : List ℕ) → length bytes ≡ 134217729 → Given old new bytes → IfSome old (λ held. bytes ≡ symbols_taken held)
+pub taken-most : (old new : Option (List ℕ)) (bytes : List ℕ) → length bytes ≡ 134217729 → Consumes old new bytes → IfSome old (λ held. bytes ≡ symbols_taken held)
 unfolding symbols_taken
 taken-most None new bytes most given = tt
 taken-most (Some held) new bytes most given =
@@ -44,14 +29,14 @@ taken-most (Some held) new bytes most given =
     sym (ap (take 134217729) front.1 ∙ take_at bytes front.0 134217729 most)
 
 -- and so are all bytes there are
-pub taken-whole : (old new : Option (List ℕ)) (bytes : List ℕ) → length bytes ≤ 134217729 → Given old new bytes → IsAtEnd new → IfSome old (λ held. bytes ≡ symbols_taken held)
+pub taken-whole : (old new : Option (List ℕ)) (bytes : List ℕ) → length bytes ≤ 134217729 → Consumes old new bytes → IsAtEnd new → IfSome old (λ held. bytes ≡ symbols_taken held)
 unfolding symbols_taken
 taken-whole None new bytes few given end = tt
 taken-whole (Some held) new bytes few given end =
-    let all = Consumes-all held new bytes given end in
+    let all : bytes ≡ held = Consumes-all (Some held) new bytes [] bytes given end refl in
     all ∙ sym (take_all 134217729 held (omega (arith, ap length all)))
 
 -- what was given is what is taken
-pub taken-exactly : (old new : Option (List ℕ)) (bytes : List ℕ) → IfSome old (λ held. bytes ≡ symbols_taken held) → Given old new bytes → IfSome old (λ held. Consumes old new (symbols_taken held))
+pub taken-exactly : (old new : Option (List ℕ)) (bytes : List ℕ) → IfSome old (λ held. bytes ≡ symbols_taken held) → Consumes old new bytes → IfSome old (λ held. Consumes old new (symbols_taken held))
 taken-exactly None new bytes same given = tt
 taken-exactly (Some held) new bytes same given = subst (Consumes (Some held) new) same given

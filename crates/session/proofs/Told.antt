@@ -12,6 +12,10 @@ pub IfSome-both : {X : Type 0} (told : Option X) {P Q R : X → Type 0} → IfSo
 IfSome-both None first second then = tt
 IfSome-both (Some x) first second then = then x first second
 
+pub IfSome-three : {X : Type 0} (told : Option X) {P Q R S : X → Type 0} → IfSome told P → IfSome told Q → IfSome told R → ((x : X) → P x → Q x → R x → S x) → IfSome told S
+IfSome-three None first second third then = tt
+IfSome-three (Some x) first second third then = then x first second third
+
 -- a fact over what is told, and over its being told
 pub IfSome-told : {X : Type 0} (told : Option X) (Q : Option X → X → Type 0) → IfSome told (λ x. Q (Some x) x) → IfSome told (Q told)
 IfSome-told None Q known = tt

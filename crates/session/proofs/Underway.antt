@@ -1,80 +1,77 @@
 -- A script that is being run.
-use Rattle.std.proofs.Common.{◌≡◌, ℕ, ◌+◌, Bool, true, false, cond, eqb, List, [], ◌∷◌, ◌++◌, length, take, Option, None, Some, refl, sym, subst, ◌∙◌, ap, arith, append_assoc}
-use Rattle.std.proofs.lemmas.List.{append-nil, length_push}
-use Rattle.std.specs.Io.KnownBytes.{Appends, Consumes, IsAtEnd, Keeps}
-use Rattle.session.specs.Evidence.{Evidence}
+use Rattle.std.proofs.Common.{◌≡◌, ℕ, ◌+◌, Bool, true, false, cond, eqb, List, [], ◌∷◌, ◌++◌, length, take, Option, None, Some, refl, sym, subst, ◌∙◌, ap, arith}
+use Rattle.std.proofs.KnownBytes.{Consumes-trans}
+use Rattle.std.proofs.lemmas.List.{length_push}
+use Rattle.std.specs.Io.KnownBytes.{Appends, Consumes}
 use Rattle.layer_base.proofs.Appending.{Appends-none, Appends-append}
-use Rattle.session.specs.Lines.{Lines, cut_lines}
-use Rattle.session.specs.Script.{texts_of, is_quit}
-use Rattle.session.specs.Turn.{turn_text, turn_line, turn_flow, flow_by, flow_after}
-use Rattle.session.specs.declared.command.Flow.TheVariants.{NextLine}
 use Rattle.session.specs.Limits.{line_room}
-use Rattle.session.proofs.Clipped.{is_quit-clipped}
+use Rattle.session.specs.Lines.{Lines, cut_lines}
+use Rattle.session.specs.Said.{Said, text_part, dump_part}
+use Rattle.session.specs.Script.{parts_of}
+use Rattle.session.specs.Turn.{turn_part, turn_line, turn_flow, flow_by, flow_after}
+use Rattle.session.specs.declared.command.Flow.TheVariants.{NextLine}
+use Rattle.session.proofs.Clipped.{Clips, ClipsPart, text-clips, dump-clips, turn_part-clipped}
 use Rattle.session.proofs.Cutting.{pushed, cut-push}
+use Rattle.session.proofs.Parts.{parts-push, rest-push}
 use Rattle.session.proofs.Quits.{NoneQuits, NoneQuits-push}
-use Rattle.session.proofs.Texts.{texts-push, rest-push}
 
--- so many bytes were given, the lines that they end were run, none of which was a `quit`, and the line that they began
--- is kept
-pub record Underway (evidence : Evidence) (script : List ℕ) (left out out' : Option (List ℕ)) (line : List ℕ) (count : ℕ) : Type 0 where
+-- so many bytes were given, the lines that they end were run, none of which ends the script, and the line that they
+-- began is kept
+pub record Underway (says : List ℕ → Said) (quits : List ℕ → Bool) (script : List ℕ) (left out out' dump dump' : Option (List ℕ)) (line : List ℕ) (count : ℕ) : Type 0 where
   pub given : List ℕ
   pub count_is : length given ≡ count
   pub taken : Consumes (Some script) left given
-  pub written : Appends out out' (texts_of evidence (cut_lines given).whole)
+  pub written : Appends out out' (parts_of (text_part says) (cut_lines given).whole)
+  pub dumped : Appends dump dump' (parts_of (dump_part says) (cut_lines given).whole)
   pub line_is : line ≡ take line_room (cut_lines given).rest
-  pub no_quit : NoneQuits (cut_lines given).whole
-
-pub Consumes-append : (script : List ℕ) (left left' : Option (List ℕ)) (given more : List ℕ) → Consumes (Some script) left given → Consumes left left' more → Consumes (Some script) left' (given ++ more)
-Consumes-append script None left' given more first second = absurd first
-Consumes-append script (Some xs) None given more first second = absurd second
-Consumes-append script (Some xs) (Some ys) given more first second = first ∙ ap (λ (l : List ℕ). given ++ l) second ∙ sym (append_assoc given more ys)
-
-pub Consumes-keep : (script : List ℕ) (left left' : Option (List ℕ)) (given : List ℕ) → Consumes (Some script) left given → Keeps left left' → Consumes (Some script) left' given
-Consumes-keep script None left' given first kept = absurd first
-Consumes-keep script (Some xs) None given first kept = absurd kept
-Consumes-keep script (Some xs) (Some ys) given first kept = first ∙ ap (λ (l : List ℕ). given ++ l) (sym kept)
-
--- what was given is a front of the script
-pub Consumes-front : (script : List ℕ) (left : Option (List ℕ)) (given : List ℕ) → Consumes (Some script) left given → (more : List ℕ) × (script ≡ given ++ more)
-Consumes-front script None given taken = absurd taken
-Consumes-front script (Some more) given taken = (more, taken)
-
--- at the end all was given
-pub Consumes-all : (script : List ℕ) (left : Option (List ℕ)) (given : List ℕ) → Consumes (Some script) left given → IsAtEnd left → given ≡ script
-Consumes-all script None given taken end = absurd taken
-Consumes-all script (Some more) given taken end = sym (taken ∙ ap (λ (l : List ℕ). given ++ l) end ∙ append-nil given)
+  pub no_quit : NoneQuits quits (cut_lines given).whole
 
 goes_on : (quits : Bool) → NextLine ≡ flow_by quits → quits ≡ false
 goes_on true is = absurd (cc)
 goes_on false is = refl
 
--- one byte more after which the script goes on
-none-push : (given : List ℕ) (byte : ℕ) → NoneQuits (cut_lines given).whole → NextLine ≡ turn_flow (take line_room (cut_lines given).rest) byte → NoneQuits (cut_lines (given ++ byte ∷ [])).whole
-none-push given byte none flow = subst (λ lines. NoneQuits lines.whole) (sym (cut-push given byte)) (at_byte (eqb byte 10) flow)
-  where
-    lines : Lines
-    lines = cut_lines given
+-- what a kept line gives to a sink with one byte more
+pub turn-kept : (part : List ℕ → List ℕ) → ClipsPart part → (line rest : List ℕ) (byte : ℕ) → line ≡ take line_room rest → turn_part part line byte ≡ turn_part part rest byte
+turn-kept part clips line rest byte kept = ap (λ l. turn_part part l byte) kept ∙ turn_part-clipped part clips rest byte
 
-    at_byte : (newline : Bool) → NextLine ≡ cond newline (flow_after (take line_room lines.rest)) NextLine → NoneQuits (pushed newline byte lines).whole
-    at_byte true is = NoneQuits-push lines.whole lines.rest none (sym (is_quit-clipped lines.rest) ∙ goes_on (is_quit (take line_room lines.rest)) is)
-    at_byte false is = none
+-- what a sink holds with one byte more
+Appends-turn : (part : List ℕ → List ℕ) → ClipsPart part → (old mid new : Option (List ℕ)) (given line : List ℕ) (byte : ℕ) → line ≡ take line_room (cut_lines given).rest
+    → Appends old mid (parts_of part (cut_lines given).whole) → Appends mid new (turn_part part line byte) → Appends old new (parts_of part (cut_lines (given ++ byte ∷ [])).whole)
+Appends-turn part clips old mid new given line byte kept before turn =
+    let so_far = parts_of part (cut_lines given).whole in
+    subst (Appends old new) (ap (λ (l : List ℕ). so_far ++ l) (turn-kept part clips line (cut_lines given).rest byte kept) ∙ sym (parts-push part given byte)) (
+    Appends-append old mid new so_far (turn_part part line byte) before turn
+    )
 
-module _ (evidence : Evidence) (script : List ℕ) where
-  pub Underway-start : (out : Option (List ℕ)) → Underway evidence script (Some script) out out [] 0
-  Underway-start out = record { given = []; count_is = refl; taken = refl; written = Appends-none out; line_is = refl; no_quit = tt }
+module _ (says : List ℕ → Said) (quits : List ℕ → Bool) where
+  pub Underway-start : (script : List ℕ) (out dump : Option (List ℕ)) → Underway says quits script (Some script) out out dump dump [] 0
+  Underway-start script out dump = record { given = []; count_is = refl; taken = refl; written = Appends-none out; dumped = Appends-none dump; line_is = refl; no_quit = tt }
 
-  pub Underway-next : (left left' out out' out'' : Option (List ℕ)) (line line' : List ℕ) (count byte : ℕ)
-      → Underway evidence script left out out' line count → Consumes left left' (byte ∷ []) → Appends out' out'' (turn_text evidence line byte) → line' ≡ turn_line line byte → NextLine ≡ turn_flow line byte
-      → Underway evidence script left' out out'' line' (count + 1)
-  Underway-next left left' out out' out'' line line' count byte before taken written next flow =
+module _ (says : List ℕ → Said) (quits : List ℕ → Bool) (clips : Clips says quits) where
+  -- one byte more after which the script goes on
+  none-push : (given : List ℕ) (byte : ℕ) → NoneQuits quits (cut_lines given).whole → NextLine ≡ turn_flow quits (take line_room (cut_lines given).rest) byte → NoneQuits quits (cut_lines (given ++ byte ∷ [])).whole
+  none-push given byte none flow = subst (λ lines. NoneQuits quits lines.whole) (sym (cut-push given byte)) (at_byte (eqb byte 10) flow)
+    where
+      lines : Lines
+      lines = cut_lines given
+
+      at_byte : (newline : Bool) → NextLine ≡ cond newline (flow_after quits (take line_room lines.rest)) NextLine → NoneQuits quits (pushed newline byte lines).whole
+      at_byte true is = NoneQuits-push quits lines.whole lines.rest none (sym (clips.same_end lines.rest) ∙ goes_on (quits (take line_room lines.rest)) is)
+      at_byte false is = none
+
+  pub Underway-next : (script : List ℕ) (left left' out out' out'' dump dump' dump'' : Option (List ℕ)) (line line' : List ℕ) (count byte : ℕ)
+      → Underway says quits script left out out' dump dump' line count → Consumes left left' (byte ∷ [])
+      → Appends out' out'' (turn_part (text_part says) line byte) → Appends dump' dump'' (turn_part (dump_part says) line byte)
+      → line' ≡ turn_line line byte → NextLine ≡ turn_flow quits line byte
+      → Underway says quits script left' out out'' dump dump'' line' (count + 1)
+  Underway-next script left left' out out' out'' dump dump' dump'' line line' count byte before taken written dumped next flow =
       let given = before.given in
       record {
         given = given ++ byte ∷ [];
         count_is = omega (arith, length_push given byte, before.count_is);
-        taken = Consumes-append script left left' given (byte ∷ []) before.taken taken;
-        written = subst (Appends out out'') (ap (λ l. texts_of evidence (cut_lines given).whole ++ turn_text evidence l byte) before.line_is ∙ sym (texts-push evidence given byte)) (
-            Appends-append out out' out'' (texts_of evidence (cut_lines given).whole) (turn_text evidence line byte) before.written written
-            );
+        taken = Consumes-trans (Some script) left left' given (byte ∷ []) before.taken taken;
+        written = Appends-turn (text_part says) (text-clips says quits clips) out out' out'' given line byte before.line_is before.written written;
+        dumped = Appends-turn (dump_part says) (dump-clips says quits clips) dump dump' dump'' given line byte before.line_is before.dumped dumped;
         line_is = next ∙ ap (λ l. turn_line l byte) before.line_is ∙ sym (rest-push given byte);
-        no_quit = none-push given byte before.no_quit (flow ∙ ap (λ l. turn_flow l byte) before.line_is);
+        no_quit = none-push given byte before.no_quit (flow ∙ ap (λ l. turn_flow quits l byte) before.line_is);
       }

@@ -2,10 +2,9 @@
 use Rattle.std.specs.Prelude.{◌≡◌, ℕ, ◌-◌, ◌≤◌, List, length, take, Option, IfSome}
 use Rattle.std.specs.Io.{StartsWith}
 use Rattle.std.specs.Io.KnownBytes.{Appends, Consumes}
-use Rattle.session.specs.Evidence.{Evidence}
 use Rattle.layer_base.specs.View.{View}
 use Rattle.session.specs.Lines.{cut_lines, lines_of}
-use Rattle.session.specs.Script.{texts_of}
+use Rattle.session.specs.Script.{parts_of}
 use Rattle.session.specs.declared.status.Status.{Status}
 use Rattle.session.specs.declared.status.Status.TheVariants.{ScriptFault}
 
@@ -27,10 +26,12 @@ pub record GaveAtMost (most : ℕ) (old new : Option (List ℕ)) : Type 0 where
 abbrev pub lines_before_last : List ℕ → List (List ℕ)
 lines_before_last bytes = take (length (lines_of bytes) - 1) (lines_of bytes)
 
--- Of the bytes that the script gave, each line but the last has its whole text in what was appended. Where a call on
--- the script failed, each line has it whose newline was given.
-abbrev pub HasWholeLines : Evidence → Option (List ℕ) → Option (List ℕ) → Option (List ℕ) → Option (List ℕ) → Status → Type 0
-HasWholeLines evidence script script' out out' status =
-    (given : List ℕ) × (appended : List ℕ) × Consumes script script' given × Appends out out' appended
-    × StartsWith appended (texts_of evidence (lines_before_last given))
-    × (status ≡ ScriptFault → StartsWith appended (texts_of evidence (cut_lines given).whole))
+-- Of the bytes that the script gave, each line but the last has its whole part in what was appended to a sink. Where a
+-- call on the script failed, each line has it whose newline was given.
+pub record HasWholeLines (part : List ℕ → List ℕ) (script script' old new : Option (List ℕ)) (status : Status) : Type 0 where
+  pub given : List ℕ
+  pub appended : List ℕ
+  pub consumed : Consumes script script' given
+  pub written : Appends old new appended
+  pub lines : StartsWith appended (parts_of part (lines_before_last given))
+  pub lines_at_fault : status ≡ ScriptFault → StartsWith appended (parts_of part (cut_lines given).whole)

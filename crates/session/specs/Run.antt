@@ -6,22 +6,16 @@ use Rattle.layer_base.specs.declared.layer.Kind.{Kind}
 use Rattle.isf_reader.specs.Table.{Sections, table_of}
 use Rattle.isf_reader.specs.declared.refusal.IsfRefusal.{IsfRefusal}
 use Rattle.session.specs.Evidence.{Evidence, evidence_over}
-use Rattle.session.specs.Script.{is_short, script_text, script_taken, through_quit}
+use Rattle.session.specs.Line.{line_said, is_quit}
+use Rattle.session.specs.Outcome.{Outcome}
+use Rattle.session.specs.Script.{script_run}
 use Rattle.session.specs.Stack.{Shown, as_file, stack_of, attached, attached_view, refusal_text}
 use Rattle.session.specs.SymbolFile.{symbols_taken, symbols_refusal_text}
 use Rattle.session.specs.Words.{are_accepted}
 use Rattle.session.specs.declared.stack.Refusal.{Refusal}
-use Rattle.session.specs.declared.status.Status.{Status}
 use Rattle.session.specs.declared.status.Status.TheVariants as status
 
--- the status, the text, the dumped bytes, and the bytes that were taken of the symbol file and of the script
-pub record Outcome : Type 0 where
-  pub status : Status
-  pub text : List ℕ
-  pub dumped : List ℕ
-  pub symbols_taken : List ℕ
-  pub script_taken : List ℕ
-
+-- the words of the command line are refused
 abbrev pub refused : Outcome
 refused = record {
   status = status.Usage;
@@ -30,20 +24,6 @@ refused = record {
   symbols_taken = [];
   script_taken = [];
 }
-
--- what bytes of a script come to of which none follow a `quit`
-abbrev pub bytes_run : Evidence → List ℕ → Outcome
-bytes_run evidence bytes = record {
-  status = if is_short bytes then status.Ok else status.ScriptTooLong;
-  text = script_text evidence bytes;
-  dumped = [];
-  symbols_taken = [];
-  script_taken = script_taken bytes;
-}
-
--- a script is run through its first `quit`; the bytes behind it are neither looked at nor taken
-abbrev pub script_run : Evidence → List ℕ → Outcome
-script_run evidence script = bytes_run evidence (through_quit script)
 
 -- nothing is taken of the symbol file and of the script
 abbrev pub image_refused : Refusal → Outcome
@@ -67,7 +47,7 @@ symbols_refused refusal = record {
 
 -- the script is run over a memory and the table of a symbol file
 abbrev pub table_run : AddressSpace → Result Sections IsfRefusal → List ℕ → Outcome
-table_run memory (Ok table) script = script_run (record { memory = memory; table = table }) script
+table_run memory (Ok table) script = script_run (line_said (record { memory = memory; table = table })) is_quit script
 table_run memory (Err refusal) script = symbols_refused refusal
 
 -- the symbol file was taken before that

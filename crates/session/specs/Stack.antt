@@ -1,5 +1,5 @@
 -- What an image shows once the formats were tried on it.
-use Rattle.std.specs.Prelude.{◌≡◌, ℕ, ◌⊎◌, List, [], ◌∷◌, ◌++◌, codes, Option, Some, IfSome, Result, Ok, Err}
+use Rattle.std.specs.Prelude.{◌≡◌, ℕ, ◌≤◌, ◌⊎◌, List, [], ◌∷◌, ◌++◌, codes, Option, Some, IfSome, Result, Ok, Err}
 use Rattle.std.specs.List.{Contains}
 use Rattle.layer_base.specs.Attach.{reading_of}
 use Rattle.layer_base.specs.View.{View, physical}
@@ -12,9 +12,11 @@ use Rattle.layer_base.specs.declared.why.Rule.TheVariants as rules
 use Rattle.layer_base.specs.declared.why.Why.{Why}
 use Rattle.layer_base.specs.declared.why.Why.TheVariants.{NotThis, Taken, Bad, Device, Memory}
 use Rattle.hex_text.specs.DumpRow.{address_cell}
+use Rattle.session.specs.Status.{IsAnswer}
 use Rattle.session.specs.declared.stack.Refusal.{Refusal}
 use Rattle.session.specs.declared.stack.StackFault.{StackFault}
 use Rattle.session.specs.declared.stack.StackFault.TheVariants as faults
+use Rattle.session.specs.declared.status.Status.{Status}
 
 -- a view, and the kind of the reading that gave it
 pub record Shown : Type 0 where
@@ -59,6 +61,13 @@ Shows shown view kind = (view ≡ Some shown.view) × (kind ≡ shown.kind)
 abbrev pub KeepsOrAttaches : List Kind → Option View → Kind → Option View → Kind → Type 0
 KeepsOrAttaches formats view kind view' kind' =
     ((view' ≡ view) × (kind' ≡ kind)) ⊎ (Contains formats kind' × IfSome view (λ before. Shows (attached formats before) view' kind'))
+
+-- What a run leaves of its image: it shows what it showed or what the formats give, under an answer just what is wanted,
+-- and its calls didn't get fewer.
+pub record LeavesLayer {Y : Type 0} (view : Y → Option View) (kind : Y → Kind) (calls : Y → ℕ) (formats : List Kind) (wanted : View → Shown) (old new : Y) (end : Status) : Type 0 where
+  pub shown : KeepsOrAttaches formats (view old) (kind old) (view new) (kind new)
+  pub exact : IfSome (view old) (λ before. IsAnswer end → Shows (wanted before) (view new) (kind new))
+  pub no_less_calls : calls old ≤ calls new
 
 -- The tries came to what the formats give. A fault and running out of memory say nothing of it.
 abbrev pub TriesAs : Result Shown Refusal → Option View → Kind → Result (Unit {0}) StackFault → Type 0

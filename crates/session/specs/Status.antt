@@ -36,6 +36,7 @@ fault_of_sink sink.Memory = fault.Memory
 abbrev pub status_of_fault : CommandFault → Status
 status_of_fault fault.Image = status.ImageFault
 status_of_fault fault.Out = status.OutFault
+status_of_fault fault.Dump = status.DumpFault
 status_of_fault fault.Memory = status.Memory
 
 -- the status of a run whose last write came to this

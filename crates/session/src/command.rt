@@ -1,5 +1,5 @@
 //! Running one line.
-ghost use Rattle.std.specs.Prelude.{◌≡◌, string_bytes, IsErrOf, IfOk, IfSome};
+ghost use Rattle.std.specs.Prelude.{◌≡◌, [], string_bytes, IsErrOf, IfOk, IfSome};
 ghost use Rattle.layer_base.specs.Counts.{HasCause};
 ghost use Rattle.layer_base.specs.Known.{Writes};
 ghost use Rattle.space_memory.specs.State.{IsSameMemory};
@@ -7,8 +7,8 @@ ghost use Rattle.command_words.specs.Limits.{KeepsLimits};
 ghost use Rattle.session.specs.Evidence.{evidence_in};
 ghost use Rattle.session.specs.Command.{command_text};
 ghost use Rattle.session.specs.Fault.{wanted_text, unknown_text, fault_text};
-ghost use Rattle.session.specs.Script.{line_text};
-ghost use Rattle.session.specs.Turn.{flow_of, flow_after};
+ghost use Rattle.session.specs.Line.{line_said, is_quit, flow_of};
+ghost use Rattle.session.specs.Turn.{flow_after};
 
 use crate::layout::layout_text;
 use crate::lookup::{near_text, symbol_text};
@@ -39,26 +39,30 @@ fn flow_of(command: &Command) -> Flow
     }
 }
 
-/// Writes what a line prints, and answers whether the script goes on.
-pub(crate) fn run_line<Y: Layer, O: Sink, L: Ledger>(
+/// Writes what a line prints and dumps, and answers whether the script goes on.
+pub(crate) fn run_line<Y: Layer, O: Sink, D: Sink, L: Ledger>(
     alloc: Global,
     memory: &mut Memory<Y>,
     file: &SymbolFile<'_>,
     page: &mut Page,
     line: &[u8],
     out: &mut O,
+    dump: &mut D,
     steps: &mut Steps<L>,
 ) -> Result<Flow, CommandFault>
     ensures text { IfSome memory.old.view (λ view.
-        Writes (O.written out.old) (O.written out.new) result (line_text (evidence_in view file.now.table.now) line.now)) }
-    ensures flow { IfOk result (λ flow. flow ≡ flow_after line.now) }
+        Writes (O.written out.old) (O.written out.new) result (line_said (evidence_in view file.now.table.now) line.now).text) }
+    ensures dumped { IfSome memory.old.view (λ view.
+        Writes (D.written dump.old) (D.written dump.new) result (line_said (evidence_in view file.now.table.now) line.now).dumped) }
+    ensures flow { IfOk result (λ flow. flow ≡ flow_after is_quit line.now) }
     ensures memory { IsSameMemory memory.old memory.new }
     ensures image { HasCause memory.old.faults memory.new.faults (IsErrOf result CommandFault.Image) }
     ensures out { HasCause (O.faults out.old) (O.faults out.new) (IsErrOf result CommandFault.Out) }
+    ensures dump { HasCause (D.faults dump.old) (D.faults dump.new) (IsErrOf result CommandFault.Dump) }
 {
     match parse_line(alloc, line) {
         Ok(command) => {
-            run_command(alloc, memory, file, page, &command, out, steps)?;
+            run_command(alloc, memory, file, page, &command, out, dump, steps)?;
             Ok(flow_of(&command))
         }
         Err(LineFault::Memory) => Err(CommandFault::Memory),
@@ -69,22 +73,25 @@ pub(crate) fn run_line<Y: Layer, O: Sink, L: Ledger>(
     }
 }
 
-// Writes what a command prints.
-fn run_command<Y: Layer, O: Sink, L: Ledger>(
+// Writes what a command prints and dumps. None that dumps anything runs yet.
+fn run_command<Y: Layer, O: Sink, D: Sink, L: Ledger>(
     alloc: Global,
     memory: &mut Memory<Y>,
     file: &SymbolFile<'_>,
     page: &mut Page,
     command: &Command,
     out: &mut O,
+    dump: &mut D,
     steps: &mut Steps<L>,
 ) -> Result<(), CommandFault>
     requires { KeepsLimits command.now }
     ensures text { IfSome memory.old.view (λ view.
         Writes (O.written out.old) (O.written out.new) result (command_text (evidence_in view file.now.table.now) command.now)) }
+    ensures dumped { Writes (D.written dump.old) (D.written dump.new) result [] }
     ensures memory { IsSameMemory memory.old memory.new }
     ensures image { HasCause memory.old.faults memory.new.faults (IsErrOf result CommandFault.Image) }
     ensures out { HasCause (O.faults out.old) (O.faults out.new) (IsErrOf result CommandFault.Out) }
+    ensures dump { HasCause (D.faults dump.old) (D.faults dump.new) (IsErrOf result CommandFault.Dump) }
 {
     match command {
         Command::Nothing | Command::Quit => Ok(()),
@@ -108,6 +115,7 @@ fn write_fault<O: Sink>(alloc: Global, fault: LineFault, out: &mut O) -> Result<
     ensures text { Writes (O.written out.old) (O.written out.new) result (fault_text fault) }
     ensures out { HasCause (O.faults out.old) (O.faults out.new) (IsErrOf result CommandFault.Out) }
     ensures image { IsErrOf result CommandFault.Image → ⊥ }
+    ensures dump { IsErrOf result CommandFault.Dump → ⊥ }
 {
     match fault {
         LineFault::TooLong => write_text(out, b"error: line too long\n"),
@@ -133,6 +141,7 @@ fn write_wanted<O: Sink>(alloc: Global, wanted: u32, out: &mut O) -> Result<(), 
     ensures text { Writes (O.written out.old) (O.written out.new) result (wanted_text wanted) }
     ensures out { HasCause (O.faults out.old) (O.faults out.new) (IsErrOf result CommandFault.Out) }
     ensures image { IsErrOf result CommandFault.Image → ⊥ }
+    ensures dump { IsErrOf result CommandFault.Dump → ⊥ }
 {
     let line = wanted_line(alloc, wanted)?;
     write_text(out, line.as_bytes())
@@ -143,6 +152,7 @@ fn write_unknown<O: Sink>(out: &mut O) -> Result<(), CommandFault>
     ensures text { Writes (O.written out.old) (O.written out.new) result unknown_text }
     ensures out { HasCause (O.faults out.old) (O.faults out.new) (IsErrOf result CommandFault.Out) }
     ensures image { IsErrOf result CommandFault.Image → ⊥ }
+    ensures dump { IsErrOf result CommandFault.Dump → ⊥ }
 {
     write_text(out, b"error: unknown command\n")
 }
@@ -152,6 +162,7 @@ pub(crate) fn write_text<O: Sink>(out: &mut O, text: &[u8]) -> Result<(), Comman
     ensures text { Writes (O.written out.old) (O.written out.new) result text.now }
     ensures out { HasCause (O.faults out.old) (O.faults out.new) (IsErrOf result CommandFault.Out) }
     ensures image { IsErrOf result CommandFault.Image → ⊥ }
+    ensures dump { IsErrOf result CommandFault.Dump → ⊥ }
 {
     write_whole(out, text)?;
     Ok(())

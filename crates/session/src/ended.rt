@@ -6,13 +6,16 @@ ghost use Rattle.layer_base.specs.Known.{AppendsPrefix};
 ghost use Rattle.layer_base.specs.SameLayer.{IsSameLayer};
 ghost use Rattle.layer_base.specs.View.{physical};
 ghost use Rattle.isf_reader.specs.Table.{most_bytes, table_of};
-ghost use Rattle.session.specs.Causes.{NothingFailed};
+ghost use Rattle.session.specs.Causes.{FaultsHaveCause, NothingFailed};
 ghost use Rattle.session.specs.Evidence.{table_in, evidence_in, evidence_over};
 ghost use Rattle.session.specs.Headline.{WhereTold, GaveAtMost, GavePrefix, HasWholeLines};
 ghost use Rattle.session.specs.Limits.{most_script};
-ghost use Rattle.session.specs.Ran.{IsScriptEnd, IsTableEnd, IsRunEnd, RanOver, Took};
-ghost use Rattle.session.specs.Run.{run_of, script_run, table_run, memory_run, stack_run, shown_of, evidence_of};
-ghost use Rattle.session.specs.Stack.{stack_of, attached, KeepsOrAttaches, Shows};
+ghost use Rattle.session.specs.Line.{line_said, is_quit};
+ghost use Rattle.session.specs.Ran.{IsScriptEnd, IsTableEnd, RanOver, Took};
+ghost use Rattle.session.specs.Run.{run_of, table_run, memory_run, stack_run, shown_of, evidence_of};
+ghost use Rattle.session.specs.Said.{text_part, dump_part};
+ghost use Rattle.session.specs.Script.{script_run};
+ghost use Rattle.session.specs.Stack.{stack_of, attached, KeepsOrAttaches, LeavesLayer, Shows};
 ghost use Rattle.session.specs.Status.{IsAnswer};
 ghost use Rattle.session.specs.SymbolFile.{symbols_taken};
 
@@ -45,28 +48,37 @@ const USAGE: &[u8] = b"usage: memlens IMAGE SYMBOLS [DUMP] [--cache N] [--chunk 
 
 // Runs the script over what the image shows and the symbol file.
 #[tactic(auto, using(crate::proofs::AtMost::gave_none))]
-fn run_file<Y: Layer, S: Source, O: Sink, L: Ledger>(
+fn run_file<Y: Layer, S: Source, O: Sink, D: Sink, L: Ledger>(
     alloc: Global,
     image: Y,
     file: &SymbolFile<'_>,
     script: &mut S,
     out: &mut O,
+    dump: &mut D,
     steps: &mut Steps<L>,
 ) -> (Status, Y)
     ensures ran { IfSome (Y.view image) (λ view. IfSome (S.left script.old) (λ bytes.
-        RanOver (evidence_in view file.now.table.now) (script_run (evidence_in view file.now.table.now) bytes) bytes (S.left script.new) (O.written out.old) (O.written out.new) result.0)) }
+        RanOver (line_said (evidence_in view file.now.table.now)) (script_run (line_said (evidence_in view file.now.table.now)) is_quit bytes) bytes (S.left script.new)
+        (O.written out.old) (O.written out.new) (D.written dump.old) (D.written dump.new) result.0)) }
     ensures most_script { GaveAtMost (most_script + 1) (S.left script.old) (S.left script.new) }
     ensures end { IsScriptEnd result.0 }
     ensures layer { IsSameLayer Y.view Y.kind Y.faults Y.calls image result.1 }
-    ensures image { HasCause (Y.faults image) (Y.faults result.1) (result.0 ≡ Status.ImageFault) }
-    ensures script { HasCause (S.faults script.old) (S.faults script.new) (result.0 ≡ Status.ScriptFault) }
-    ensures out { HasCause (O.faults out.old) (O.faults out.new) (result.0 ≡ Status.OutFault) }
+    ensures causes { FaultsHaveCause (Y.faults image) (Y.faults result.1) (S.faults script.old) (S.faults script.new) (O.faults out.old) (O.faults out.new) (D.faults dump.old) (D.faults dump.new) result.0 }
 {
     match Memory::new(alloc, image, KEPT_RUNS) {
         Ok(memory) => {
             let mut memory = memory;
             let mut page = Page::new(alloc);
-            let status = run_script(alloc, &mut memory, file, &mut page, script, out, steps);
+            let status = run_script(
+                alloc,
+                &mut memory,
+                file,
+                &mut page,
+                script,
+                out,
+                dump,
+                steps,
+            );
             (status, memory.into_layer())
         }
         Err(refused) => (Status::Memory, refused.phys),
@@ -75,80 +87,79 @@ fn run_file<Y: Layer, S: Source, O: Sink, L: Ledger>(
 
 // Makes the index of a table, and runs the script over what the image shows and both.
 #[tactic(auto, using(crate::proofs::AtMost::gave_none))]
-fn run_table<Y: Layer, S: Source, O: Sink, L: Ledger>(
+fn run_table<Y: Layer, S: Source, O: Sink, D: Sink, L: Ledger>(
     alloc: Global,
     image: Y,
     table: &Table,
     script: &mut S,
     out: &mut O,
+    dump: &mut D,
     steps: &mut Steps<L>,
 ) -> (Status, Y)
     ensures ran { IfSome (Y.view image) (λ view. IfSome (S.left script.old) (λ bytes.
-        RanOver (evidence_in view table.now) (script_run (evidence_in view table.now) bytes) bytes (S.left script.new) (O.written out.old) (O.written out.new) result.0)) }
+        RanOver (line_said (evidence_in view table.now)) (script_run (line_said (evidence_in view table.now)) is_quit bytes) bytes (S.left script.new)
+        (O.written out.old) (O.written out.new) (D.written dump.old) (D.written dump.new) result.0)) }
     ensures most_script { GaveAtMost (most_script + 1) (S.left script.old) (S.left script.new) }
     ensures end { IsScriptEnd result.0 }
     ensures layer { IsSameLayer Y.view Y.kind Y.faults Y.calls image result.1 }
-    ensures image { HasCause (Y.faults image) (Y.faults result.1) (result.0 ≡ Status.ImageFault) }
-    ensures script { HasCause (S.faults script.old) (S.faults script.new) (result.0 ≡ Status.ScriptFault) }
-    ensures out { HasCause (O.faults out.old) (O.faults out.new) (result.0 ≡ Status.OutFault) }
+    ensures causes { FaultsHaveCause (Y.faults image) (Y.faults result.1) (S.faults script.old) (S.faults script.new) (O.faults out.old) (O.faults out.new) (D.faults dump.old) (D.faults dump.new) result.0 }
 {
     match SymbolFile::of(alloc, table) {
-        Ok(file) => run_file(alloc, image, &file, script, out, steps),
+        Ok(file) => run_file(alloc, image, &file, script, out, dump, steps),
         Err(_) => (Status::Memory, image),
     }
 }
 
 // Runs the script over what the image shows and the bytes of the symbol file, or refuses these.
 #[tactic(auto, using(crate::proofs::AtMost::gave_none))]
-fn run_bytes<Y: Layer, S: Source, O: Sink, L: Ledger>(
+fn run_bytes<Y: Layer, S: Source, O: Sink, D: Sink, L: Ledger>(
     alloc: Global,
     image: Y,
     symbols: Vec<u8>,
     script: &mut S,
     out: &mut O,
+    dump: &mut D,
     steps: &mut Steps<L>,
 ) -> (Status, Y)
     ensures ran { IfSome (Y.view image) (λ view. IfSome (S.left script.old) (λ bytes.
-        RanOver (evidence_in view (table_in (table_of symbols.items))) (table_run (physical view) (table_of symbols.items) bytes) bytes (S.left script.new) (O.written out.old) (O.written out.new) result.0)) }
+        RanOver (line_said (evidence_in view (table_in (table_of symbols.items)))) (table_run (physical view) (table_of symbols.items) bytes) bytes (S.left script.new)
+        (O.written out.old) (O.written out.new) (D.written dump.old) (D.written dump.new) result.0)) }
     ensures most_script { GaveAtMost (most_script + 1) (S.left script.old) (S.left script.new) }
     ensures end { IsTableEnd result.0 }
     ensures layer { IsSameLayer Y.view Y.kind Y.faults Y.calls image result.1 }
-    ensures image { HasCause (Y.faults image) (Y.faults result.1) (result.0 ≡ Status.ImageFault) }
-    ensures script { HasCause (S.faults script.old) (S.faults script.new) (result.0 ≡ Status.ScriptFault) }
-    ensures out { HasCause (O.faults out.old) (O.faults out.new) (result.0 ≡ Status.OutFault) }
+    ensures causes { FaultsHaveCause (Y.faults image) (Y.faults result.1) (S.faults script.old) (S.faults script.new) (O.faults out.old) (O.faults out.new) (D.faults dump.old) (D.faults dump.new) result.0 }
 {
     let read = Table::read(alloc, &symbols);
     drop(symbols);
     match read {
-        Ok(table) => run_table(alloc, image, &table, script, out, steps),
+        Ok(table) => run_table(alloc, image, &table, script, out, dump, steps),
         Err(refusal) => (refuse_symbols(alloc, refusal, out), image),
     }
 }
 
 // Takes the symbol file, and runs the script over what it and the image show.
 #[tactic(auto, using(crate::proofs::AtMost::gave_none))]
-fn run_memory<Y: Layer, J: Source, S: Source, O: Sink, L: Ledger>(
+fn run_memory<Y: Layer, J: Source, S: Source, O: Sink, D: Sink, L: Ledger>(
     alloc: Global,
     image: Y,
     symbols: &mut J,
     script: &mut S,
     out: &mut O,
+    dump: &mut D,
     steps: &mut Steps<L>,
 ) -> (Status, Y)
     ensures ran { WhereTold (Y.view image) (J.left symbols.old) (S.left script.old) (λ view j s.
-        RanOver (evidence_over (physical view) j) (memory_run (physical view) j s) s (S.left script.new) (O.written out.old) (O.written out.new) result.0) }
+        RanOver (line_said (evidence_over (physical view) j)) (memory_run (physical view) j s) s (S.left script.new)
+        (O.written out.old) (O.written out.new) (D.written dump.old) (D.written dump.new) result.0) }
     ensures took { IfSome (J.left symbols.old) (λ j. Took (symbols_taken j) (J.left symbols.old) (J.left symbols.new) result.0) }
     ensures most_symbols { GaveAtMost (most_bytes + 1) (J.left symbols.old) (J.left symbols.new) }
     ensures most_script { GaveAtMost (most_script + 1) (S.left script.old) (S.left script.new) }
-    ensures end { IsRunEnd result.0 }
     ensures layer { IsSameLayer Y.view Y.kind Y.faults Y.calls image result.1 }
-    ensures image { HasCause (Y.faults image) (Y.faults result.1) (result.0 ≡ Status.ImageFault) }
     ensures symbols { HasCause (J.faults symbols.old) (J.faults symbols.new) (result.0 ≡ Status.SymbolsFault) }
-    ensures script { HasCause (S.faults script.old) (S.faults script.new) (result.0 ≡ Status.ScriptFault) }
-    ensures out { HasCause (O.faults out.old) (O.faults out.new) (result.0 ≡ Status.OutFault) }
+    ensures causes { FaultsHaveCause (Y.faults image) (Y.faults result.1) (S.faults script.old) (S.faults script.new) (O.faults out.old) (O.faults out.new) (D.faults dump.old) (D.faults dump.new) result.0 }
 {
     match take_symbols(alloc, symbols) {
-        Ok(bytes) => run_bytes(alloc, image, bytes, script, out, steps),
+        Ok(bytes) => run_bytes(alloc, image, bytes, script, out, dump, steps),
         Err(SymbolsFault::Failed) => (Status::SymbolsFault, image),
         Err(SymbolsFault::Memory) => (Status::Memory, image),
     }
@@ -156,34 +167,31 @@ fn run_memory<Y: Layer, J: Source, S: Source, O: Sink, L: Ledger>(
 
 // Tries the formats on the image, and runs the script over what it shows then.
 #[tactic(auto, using(crate::proofs::AtMost::gave_none))]
-fn run_image<Y: Layer, J: Source, S: Source, O: Sink, L: Ledger>(
+fn run_image<Y: Layer, J: Source, S: Source, O: Sink, D: Sink, L: Ledger>(
     alloc: Global,
     image: Y,
     formats: &[Kind],
     symbols: &mut J,
     script: &mut S,
     out: &mut O,
+    dump: &mut D,
     steps: &mut Steps<L>,
 ) -> (Status, Y)
     requires file { Y.kind image ≡ Kind.File }
     ensures ran { WhereTold (Y.view image) (J.left symbols.old) (S.left script.old) (λ before j s.
-        RanOver (evidence_of formats.now before j) (stack_run (stack_of formats.now before) j s) s (S.left script.new) (O.written out.old) (O.written out.new) result.0) }
+        RanOver (line_said (evidence_of formats.now before j)) (stack_run (stack_of formats.now before) j s) s (S.left script.new)
+        (O.written out.old) (O.written out.new) (D.written dump.old) (D.written dump.new) result.0) }
     ensures took { WhereTold (Y.view image) (J.left symbols.old) (S.left script.old) (λ before j s.
         Took (stack_run (stack_of formats.now before) j s).symbols_taken (J.left symbols.old) (J.left symbols.new) result.0) }
     ensures most_symbols { GaveAtMost (most_bytes + 1) (J.left symbols.old) (J.left symbols.new) }
     ensures most_script { GaveAtMost (most_script + 1) (S.left script.old) (S.left script.new) }
-    ensures end { IsRunEnd result.0 }
-    ensures layer { KeepsOrAttaches formats.now (Y.view image) (Y.kind image) (Y.view result.1) (Y.kind result.1) }
-    ensures shows { IfSome (Y.view image) (λ before. IsAnswer result.0 → Shows (attached formats.now before) (Y.view result.1) (Y.kind result.1)) }
-    ensures calls { Y.calls image ≤ Y.calls result.1 }
-    ensures image { HasCause (Y.faults image) (Y.faults result.1) (result.0 ≡ Status.ImageFault) }
+    ensures layer { LeavesLayer Y.view Y.kind Y.calls formats.now (attached formats.now) image result.1 result.0 }
     ensures symbols { HasCause (J.faults symbols.old) (J.faults symbols.new) (result.0 ≡ Status.SymbolsFault) }
-    ensures script { HasCause (S.faults script.old) (S.faults script.new) (result.0 ≡ Status.ScriptFault) }
-    ensures out { HasCause (O.faults out.old) (O.faults out.new) (result.0 ≡ Status.OutFault) }
+    ensures causes { FaultsHaveCause (Y.faults image) (Y.faults result.1) (S.faults script.old) (S.faults script.new) (O.faults out.old) (O.faults out.new) (D.faults dump.old) (D.faults dump.new) result.0 }
 {
     let mut image = image;
     match attach_formats(&mut image, formats) {
-        Ok(()) => run_memory(alloc, image, symbols, script, out, steps),
+        Ok(()) => run_memory(alloc, image, symbols, script, out, dump, steps),
         Err(StackFault::Refused(refusal)) => {
             let refused = write_refusal(alloc, refusal, out);
             (status_after(Status::ImageRefused, refused), image)
@@ -195,7 +203,7 @@ fn run_image<Y: Layer, J: Source, S: Source, O: Sink, L: Ledger>(
 
 // A run over a layer that may be unboxed.
 #[tactic(auto, using(crate::proofs::AtMost::gave_none))]
-fn run_over<Y: Layer, J: Source, S: Source, O: Sink, L: Ledger>(
+fn run_over<Y: Layer, J: Source, S: Source, O: Sink, D: Sink, L: Ledger>(
     alloc: Global,
     words: &[String],
     image: Y,
@@ -203,38 +211,35 @@ fn run_over<Y: Layer, J: Source, S: Source, O: Sink, L: Ledger>(
     symbols: &mut J,
     script: &mut S,
     out: &mut O,
+    dump: &mut D,
     steps: &mut Steps<L>,
 ) -> (Status, Y)
     requires file { Y.kind image ≡ Kind.File }
     ensures ran { WhereTold (Y.view image) (J.left symbols.old) (S.left script.old) (λ before j s.
-        RanOver (evidence_of formats.now before j) (run_of (map string_bytes words.now) formats.now before j s) s (S.left script.new) (O.written out.old) (O.written out.new) result.0) }
+        RanOver (line_said (evidence_of formats.now before j)) (run_of (map string_bytes words.now) formats.now before j s) s (S.left script.new)
+        (O.written out.old) (O.written out.new) (D.written dump.old) (D.written dump.new) result.0) }
     ensures took { WhereTold (Y.view image) (J.left symbols.old) (S.left script.old) (λ before j s.
         Took (run_of (map string_bytes words.now) formats.now before j s).symbols_taken (J.left symbols.old) (J.left symbols.new) result.0) }
     ensures most_symbols { GaveAtMost (most_bytes + 1) (J.left symbols.old) (J.left symbols.new) }
     ensures most_script { GaveAtMost (most_script + 1) (S.left script.old) (S.left script.new) }
-    ensures end { IsRunEnd result.0 }
-    ensures layer { KeepsOrAttaches formats.now (Y.view image) (Y.kind image) (Y.view result.1) (Y.kind result.1) }
-    ensures shows { IfSome (Y.view image) (λ before. IsAnswer result.0 → Shows (shown_of (map string_bytes words.now) formats.now before) (Y.view result.1) (Y.kind result.1)) }
-    ensures calls { Y.calls image ≤ Y.calls result.1 }
-    ensures image { HasCause (Y.faults image) (Y.faults result.1) (result.0 ≡ Status.ImageFault) }
+    ensures layer { LeavesLayer Y.view Y.kind Y.calls formats.now (shown_of (map string_bytes words.now) formats.now) image result.1 result.0 }
     ensures symbols { HasCause (J.faults symbols.old) (J.faults symbols.new) (result.0 ≡ Status.SymbolsFault) }
-    ensures script { HasCause (S.faults script.old) (S.faults script.new) (result.0 ≡ Status.ScriptFault) }
-    ensures out { HasCause (O.faults out.old) (O.faults out.new) (result.0 ≡ Status.OutFault) }
+    ensures causes { FaultsHaveCause (Y.faults image) (Y.faults result.1) (S.faults script.old) (S.faults script.new) (O.faults out.old) (O.faults out.new) (D.faults dump.old) (D.faults dump.new) result.0 }
 {
     if !are_accepted(words) {
         return (status_after(Status::Usage, write_text(out, USAGE)), image);
     }
-    run_image(alloc, image, formats, symbols, script, out, steps)
+    run_image(alloc, image, formats, symbols, script, out, dump, steps)
 }
 
-/// Runs a script over an image and a symbol file, and writes what its lines print.
+/// Runs a script over an image and a symbol file, and writes what its lines print and dump.
 ///
 /// The words are those of the command line. Where they are accepted, the formats are tried on the image in their
 /// order, and the first that it is of is attached; an image of none of them is read as it is. The symbol file is taken
-/// to its end, or until one byte more was taken than it may have, and read as a table. Nothing is dumped. The script
-/// is taken one byte at a time, and a line is run before the next is read; the bytes behind the newline of a `quit` are
-/// left to the caller. A refusal of the words, of the image, of the symbol file, or of a script that is too long, is a
-/// line of the text.
+/// to its end, or until one byte more was taken than it may have, and read as a table. The script is taken one byte at a
+/// time, and a line is run before the next is read; the bytes behind the newline of a `quit` are left to the caller. What
+/// its lines dump goes to the dump's file; no command dumps anything yet. A refusal of the words, of the image, of the
+/// symbol file, or of a script that is too long, is a line of the text.
 ///
 /// The clauses on content hold where the image, the symbol file and the script tell what they hold, and those on a
 /// sink where it tells what was written. When `Memory` comes is left open.
@@ -265,9 +270,12 @@ pub fn run<J: Source, S: Source, O: Sink, D: Sink, L: Ledger>(
     ensures most_symbols { GaveAtMost (most_bytes + 1) (J.left symbols.old) (J.left symbols.new) }
     ensures most_script { GaveAtMost (most_script + 1) (S.left script.old) (S.left script.new) }
 
-    // Every line that was read, but for the last, has its whole text in what was written.
+    // Every line that was read, but for the last, has its whole text in what was written, and all that it dumps in what
+    // was dumped.
     ensures whole_lines { WhereTold (view image) (J.left symbols.old) (S.left script.old) (λ before j s.
-        HasWholeLines (evidence_of formats.now before j) (S.left script.old) (S.left script.new) (O.written out.old) (O.written out.new) result.status) }
+        HasWholeLines (text_part (line_said (evidence_of formats.now before j))) (S.left script.old) (S.left script.new) (O.written out.old) (O.written out.new) result.status) }
+    ensures whole_dumps { WhereTold (view image) (J.left symbols.old) (S.left script.old) (λ before j s.
+        HasWholeLines (dump_part (line_said (evidence_of formats.now before j))) (S.left script.old) (S.left script.new) (D.written dump.old) (D.written dump.new) result.status) }
 
     // A status other than a fault or out of memory is the one that the run comes to, and all was written and taken.
     ensures exact_status { WhereTold (view image) (J.left symbols.old) (S.left script.old) (λ before j s.
@@ -301,6 +309,8 @@ pub fn run<J: Source, S: Source, O: Sink, D: Sink, L: Ledger>(
         (O.faults out.old) (O.faults out.new) (D.faults dump.old) (D.faults dump.new)
         → (result.status ≡ (run_of (map string_bytes words.now) formats.now before j s).status) ⊎ (result.status ≡ Status.Memory)) }
 {
-    let (status, layer) = run_over(alloc, words, image, formats, symbols, script, out, steps);
+    let (status, layer) = run_over(
+        alloc, words, image, formats, symbols, script, out, dump, steps,
+    );
     Ended { status, layer }
 }

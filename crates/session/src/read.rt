@@ -135,6 +135,7 @@ impl Page {
         ensures memory { IsSameMemory memory.old memory.new }
         ensures image { HasCause memory.old.faults memory.new.faults (IsErrOf result CommandFault.Image) }
         ensures out { HasCause (O.faults out.old) (O.faults out.new) (IsErrOf result CommandFault.Out) }
+        ensures dump { IsErrOf result CommandFault.Dump → ⊥ }
     {
         self.bytes.resize(len, 0)?;
         self.cells.clear();
@@ -162,6 +163,7 @@ pub(crate) fn write_read<Y: Layer, O: Sink, L: Ledger>(
     ensures memory { IsSameMemory memory.old memory.new }
     ensures image { HasCause memory.old.faults memory.new.faults (IsErrOf result CommandFault.Image) }
     ensures out { HasCause (O.faults out.old) (O.faults out.new) (IsErrOf result CommandFault.Out) }
+    ensures dump { IsErrOf result CommandFault.Dump → ⊥ }
 {
     let mut done = 0;
     while done < len {

@@ -4,12 +4,15 @@ ghost use Rattle.std.specs.Io.KnownBytes.{Consumes, Keeps, IsAtEnd};
 ghost use Rattle.layer_base.specs.Counts.{HasCause};
 ghost use Rattle.layer_base.specs.Known.{Writes};
 ghost use Rattle.space_memory.specs.State.{IsSameMemory};
+ghost use Rattle.session.specs.Causes.{FaultsHaveCause};
 ghost use Rattle.session.specs.Evidence.{evidence_in};
 ghost use Rattle.session.specs.Headline.{GaveAtMost};
 ghost use Rattle.session.specs.Limits.{most_script};
+ghost use Rattle.session.specs.Line.{line_said, is_quit};
 ghost use Rattle.session.specs.Ran.{IsScriptEnd, RanOver};
-ghost use Rattle.session.specs.Run.{script_run};
-ghost use Rattle.session.specs.Turn.{turn_text, turn_line, turn_flow, rest_text};
+ghost use Rattle.session.specs.Said.{text_part, dump_part};
+ghost use Rattle.session.specs.Script.{script_run};
+ghost use Rattle.session.specs.Turn.{turn_part, turn_line, turn_flow, rest_part};
 
 use crate::Status;
 use crate::command::{Flow, run_line, write_text};
@@ -39,7 +42,7 @@ fn take_byte<S: Source>(script: &mut S) -> Result<Option<u8>, Failed>
 }
 
 // Takes a byte into the line, or runs the line that it ends. Answers whether the script goes on.
-fn take_in<Y: Layer, O: Sink, L: Ledger>(
+fn take_in<Y: Layer, O: Sink, D: Sink, L: Ledger>(
     alloc: Global,
     memory: &mut Memory<Y>,
     file: &SymbolFile<'_>,
@@ -47,66 +50,74 @@ fn take_in<Y: Layer, O: Sink, L: Ledger>(
     line: &mut LineBuffer,
     byte: u8,
     out: &mut O,
+    dump: &mut D,
     steps: &mut Steps<L>,
 ) -> Result<Flow, CommandFault>
     ensures text { IfSome memory.old.view (λ view.
-        Writes (O.written out.old) (O.written out.new) result (turn_text (evidence_in view file.now.table.now) line.old byte)) }
-    ensures flow { IfOk result (λ flow. flow ≡ turn_flow line.old byte) }
+        Writes (O.written out.old) (O.written out.new) result (turn_part (text_part (line_said (evidence_in view file.now.table.now))) line.old byte)) }
+    ensures dumped { IfSome memory.old.view (λ view.
+        Writes (D.written dump.old) (D.written dump.new) result (turn_part (dump_part (line_said (evidence_in view file.now.table.now))) line.old byte)) }
+    ensures flow { IfOk result (λ flow. flow ≡ turn_flow is_quit line.old byte) }
     ensures line { OnOk result (line.new ≡ turn_line line.old byte) }
     ensures memory { IsSameMemory memory.old memory.new }
     ensures image { HasCause memory.old.faults memory.new.faults (IsErrOf result CommandFault.Image) }
     ensures out { HasCause (O.faults out.old) (O.faults out.new) (IsErrOf result CommandFault.Out) }
+    ensures dump { HasCause (D.faults dump.old) (D.faults dump.new) (IsErrOf result CommandFault.Dump) }
 {
     if byte != b'\n' {
         line.add(byte);
         return Ok(Flow::NextLine);
     }
-    let flow = run_line(alloc, memory, file, page, line.bytes(), out, steps)?;
+    let flow = run_line(alloc, memory, file, page, line.bytes(), out, dump, steps)?;
     line.clear();
     Ok(flow)
 }
 
 // Runs the line that lacks its newline, if there is one.
-fn run_rest<Y: Layer, O: Sink, L: Ledger>(
+fn run_rest<Y: Layer, O: Sink, D: Sink, L: Ledger>(
     alloc: Global,
     memory: &mut Memory<Y>,
     file: &SymbolFile<'_>,
     page: &mut Page,
     line: &LineBuffer,
     out: &mut O,
+    dump: &mut D,
     steps: &mut Steps<L>,
 ) -> Result<(), CommandFault>
     ensures text { IfSome memory.old.view (λ view.
-        Writes (O.written out.old) (O.written out.new) result (rest_text (evidence_in view file.now.table.now) line.now)) }
+        Writes (O.written out.old) (O.written out.new) result (rest_part (text_part (line_said (evidence_in view file.now.table.now))) line.now)) }
+    ensures dumped { IfSome memory.old.view (λ view.
+        Writes (D.written dump.old) (D.written dump.new) result (rest_part (dump_part (line_said (evidence_in view file.now.table.now))) line.now)) }
     ensures memory { IsSameMemory memory.old memory.new }
     ensures image { HasCause memory.old.faults memory.new.faults (IsErrOf result CommandFault.Image) }
     ensures out { HasCause (O.faults out.old) (O.faults out.new) (IsErrOf result CommandFault.Out) }
+    ensures dump { HasCause (D.faults dump.old) (D.faults dump.new) (IsErrOf result CommandFault.Dump) }
 {
     if let rest @ [_, ..] = line.bytes() {
-        run_line(alloc, memory, file, page, rest, out, steps)?;
+        run_line(alloc, memory, file, page, rest, out, dump, steps)?;
     }
     Ok(())
 }
 
-/// Runs the lines of a script, one after another through the first `quit`, and writes what they print.
+/// Runs the lines of a script, one after another through the first `quit`, and writes what they print and dump.
 #[tactic(auto, using(crate::proofs::AtMost::gave_none, crate::proofs::AtMost::gave_more))]
-pub(crate) fn run_script<Y: Layer, S: Source, O: Sink, L: Ledger>(
+pub(crate) fn run_script<Y: Layer, S: Source, O: Sink, D: Sink, L: Ledger>(
     alloc: Global,
     memory: &mut Memory<Y>,
     file: &SymbolFile<'_>,
     page: &mut Page,
     script: &mut S,
     out: &mut O,
+    dump: &mut D,
     steps: &mut Steps<L>,
 ) -> Status
     ensures ran { IfSome memory.old.view (λ view. IfSome (S.left script.old) (λ bytes.
-        RanOver (evidence_in view file.now.table.now) (script_run (evidence_in view file.now.table.now) bytes) bytes (S.left script.new) (O.written out.old) (O.written out.new) result)) }
+        RanOver (line_said (evidence_in view file.now.table.now)) (script_run (line_said (evidence_in view file.now.table.now)) is_quit bytes) bytes (S.left script.new)
+        (O.written out.old) (O.written out.new) (D.written dump.old) (D.written dump.new) result)) }
     ensures most { GaveAtMost (most_script + 1) (S.left script.old) (S.left script.new) }
     ensures end { IsScriptEnd result }
     ensures memory { IsSameMemory memory.old memory.new }
-    ensures image { HasCause memory.old.faults memory.new.faults (result ≡ Status.ImageFault) }
-    ensures script { HasCause (S.faults script.old) (S.faults script.new) (result ≡ Status.ScriptFault) }
-    ensures out { HasCause (O.faults out.old) (O.faults out.new) (result ≡ Status.OutFault) }
+    ensures causes { FaultsHaveCause memory.old.faults memory.new.faults (S.faults script.old) (S.faults script.new) (O.faults out.old) (O.faults out.new) (D.faults dump.old) (D.faults dump.new) result }
 {
     let mut line = LineBuffer::new();
     for _ in 0..MAX_SCRIPT {
@@ -115,11 +126,11 @@ pub(crate) fn run_script<Y: Layer, S: Source, O: Sink, L: Ledger>(
             Ok(None) => {
                 return status_after(
                     Status::Ok,
-                    run_rest(alloc, memory, file, page, &line, out, steps),
+                    run_rest(alloc, memory, file, page, &line, out, dump, steps),
                 );
             }
             Ok(Some(byte)) => match take_in(
-                alloc, memory, file, page, &mut line, byte, out, steps,
+                alloc, memory, file, page, &mut line, byte, out, dump, steps,
             ) {
                 Ok(Flow::NextLine) => {}
                 Ok(Flow::Quit) => return Status::Ok,
@@ -131,7 +142,7 @@ pub(crate) fn run_script<Y: Layer, S: Source, O: Sink, L: Ledger>(
         Err(Failed) => Status::ScriptFault,
         Ok(None) => status_after(
             Status::Ok,
-            run_rest(alloc, memory, file, page, &line, out, steps),
+            run_rest(alloc, memory, file, page, &line, out, dump, steps),
         ),
         Ok(Some(_)) => status_after(Status::ScriptTooLong, write_text(out, b"script too long\n")),
     }

@@ -100,6 +100,7 @@ pub(crate) fn write_refusal<O: Sink>(
     ensures text { Writes (O.written out.old) (O.written out.new) result (refusal_text refusal) }
     ensures out { HasCause (O.faults out.old) (O.faults out.new) (IsErrOf result CommandFault.Out) }
     ensures image { IsErrOf result CommandFault.Image → ⊥ }
+    ensures dump { IsErrOf result CommandFault.Dump → ⊥ }
 {
     let mut text = Vec::new(alloc);
     append_refusal(&mut text, refusal)?;

@@ -59,6 +59,7 @@ impl Status {
 pub(crate) enum CommandFault {
     Image,
     Out,
+    Dump,
     Memory,
 }
 
@@ -69,6 +70,7 @@ impl CommandFault {
         match self {
             CommandFault::Image => Status::ImageFault,
             CommandFault::Out => Status::OutFault,
+            CommandFault::Dump => Status::DumpFault,
             CommandFault::Memory => Status::Memory,
         }
     }

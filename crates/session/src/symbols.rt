@@ -175,6 +175,7 @@ fn write_refusal<O: Sink>(
     ensures text { Writes (O.written out.old) (O.written out.new) result (symbols_refusal_text refusal.now) }
     ensures out { HasCause (O.faults out.old) (O.faults out.new) (IsErrOf result CommandFault.Out) }
     ensures image { IsErrOf result CommandFault.Image → ⊥ }
+    ensures dump { IsErrOf result CommandFault.Dump → ⊥ }
 {
     let line = refusal_line(alloc, refusal)?;
     write_text(out, &line)
@@ -186,6 +187,7 @@ pub(crate) fn refuse_symbols<O: Sink>(alloc: Global, refusal: IsfRefusal, out: &
     ensures end { IsTableEnd result }
     ensures image { result ≢ Status.ImageFault }
     ensures script { result ≢ Status.ScriptFault }
+    ensures dump { result ≢ Status.DumpFault }
     ensures out { HasCause (O.faults out.old) (O.faults out.new) (result ≡ Status.OutFault) }
 {
     if matches!(refusal, IsfRefusal::Memory) {

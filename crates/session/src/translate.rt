@@ -49,6 +49,7 @@ pub(crate) fn write_translation<Y: Layer, O: Sink, L: Ledger>(
     ensures memory { IsSameMemory memory.old memory.new }
     ensures image { HasCause memory.old.faults memory.new.faults (IsErrOf result CommandFault.Image) }
     ensures out { HasCause (O.faults out.old) (O.faults out.new) (IsErrOf result CommandFault.Out) }
+    ensures dump { IsErrOf result CommandFault.Dump → ⊥ }
 {
     let to = memory.translate(place.space, place.at, steps)?;
     let row = row_of(alloc, place.at, to)?;

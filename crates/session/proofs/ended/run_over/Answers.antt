@@ -1,5 +1,6 @@
 use Rattle.std.proofs.Common.{◌≡◌, map, false, true, refl, sym}
 use Rattle.std.specs.Prelude.{string_bytes}
+use Rattle.session.specs.Line.{line_said}
 use Rattle.session.specs.Ran.{RanOver, Took}
 use Rattle.session.specs.Run.{refused, run_of, evidence_of}
 use Rattle.session.specs.Status.{status_after}
@@ -15,8 +16,8 @@ returns-then-not-are_accepted-clause-ran g c =
     let formats = c.args.formats.now in
     let not_accepted : are_accepted words ≡ false = sym c.if-not-are_accepted.ensures in
     rw c.status_after.ensures (WhereTold-each (g.Y.Layer.view c.args.image) (g.J.Source.left c.args.symbols.now) (g.S.Source.left c.args.script.now)
-    (λ symbols left before j s. RanOver (evidence_of formats before j) (run_of words formats before j s) s left (g.O.Sink.written c.args.out.now) (g.O.Sink.written c.write_text.new.out) (status_after Usage c.write_text.result))
-    (λ before j s. rw (run_of-refused words formats before j s not_accepted) (line-ended (evidence_of formats before j) refused refl s _ _ c.write_text.result c.write_text.ensures.text)))
+    (λ symbols left before j s. RanOver (line_said (evidence_of formats before j)) (run_of words formats before j s) s left (g.O.Sink.written c.args.out.now) (g.O.Sink.written c.write_text.new.out) (g.D.Sink.written c.args.dump.now) (g.D.Sink.written c.args.dump.now) (status_after Usage c.write_text.result))
+    (λ before j s. rw (run_of-refused words formats before j s not_accepted) (line-ended (line_said (evidence_of formats before j)) refused refl refl s _ _ _ c.write_text.result c.write_text.ensures.text)))
 
 pub returns-then-not-are_accepted-clause-took : goal.returns-then-not-are_accepted-clause-took
 returns-then-not-are_accepted-clause-took g c =
@@ -34,7 +35,7 @@ returns-clause-ran g c =
     let formats = c.args.formats.now in
     let accepted : are_accepted words ≡ true = sym c.if-not-are_accepted.ensures in
     WhereTold-then (g.Y.Layer.view c.args.image) (g.J.Source.left c.args.symbols.now) (g.S.Source.left c.args.script.now) _
-    (λ symbols left before j s. RanOver (evidence_of formats before j) (run_of words formats before j s) s (g.S.Source.left c.run_image.new.script) (g.O.Sink.written c.args.out.now) (g.O.Sink.written c.run_image.new.out) c.run_image.result.0)
+    (λ symbols left before j s. RanOver (line_said (evidence_of formats before j)) (run_of words formats before j s) s (g.S.Source.left c.run_image.new.script) (g.O.Sink.written c.args.out.now) (g.O.Sink.written c.run_image.new.out) (g.D.Sink.written c.args.dump.now) (g.D.Sink.written c.run_image.new.dump) c.run_image.result.0)
     c.run_image.ensures.ran (λ before j s ran. rw (run_of-accepted words formats before j s accepted) ran)
 
 pub returns-clause-took : goal.returns-clause-took

@@ -1,11 +1,11 @@
 use Rattle.std.proofs.Common.{◌≡◌, ◌-◌, ◌≤◌, length}
+use Rattle.std.specs.Io.KnownBytes.{Consumes}
 use Rattle.session.specs.declared.symbols.TheConstants.{PIECE}
-use Rattle.session.proofs.Taking.{Given}
 use Rattle.session.proofs.symbols.take_symbols.Given as goal
 
 abbrev pub invariant-loop-bytes : goal.invariant-loop-bytes
 invariant-loop-bytes g l = record {
-  given : Given (g.J.Source.left l.fn.symbols) (g.J.Source.left l.symbols) l.bytes.items;
+  given : Consumes (g.J.Source.left l.fn.symbols) (g.J.Source.left l.symbols) l.bytes.items;
   within : length l.bytes.items ≤ 134217729;
   piece : length l.piece.items ≡ PIECE;
   kept : g.J.Source.faults l.fn.symbols ≤ g.J.Source.faults l.symbols;
