@@ -6,9 +6,10 @@ use Rattle.std.proofs.lemmas.List.{take_all}
 use Rattle.layer_base.specs.AddressSpace.{AddressSpace}
 use Rattle.isf_reader.specs.Table.{table_of}
 use Rattle.isf_reader.specs.declared.refusal.IsfRefusal.TheVariants.{TooLarge}
+use Rattle.symbol_texts.specs.Refusal.{symbols_refusal_text}
 use Rattle.session.specs.Evidence.{table_in}
 use Rattle.session.specs.Run.{symbols_refused, table_run}
-use Rattle.session.specs.SymbolFile.{symbols_taken, symbols_refusal_text}
+use Rattle.session.specs.SymbolFile.{symbols_taken}
 
 -- a file that is too large is refused for that, whatever stands in it
 too-large : (symbols : List ℕ) → 134217728 < length symbols → table_of symbols ≡ Err (TooLarge (length symbols))

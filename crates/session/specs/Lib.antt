@@ -5,7 +5,6 @@ pub mod Fault
 pub mod Headline
 pub mod Limits
 pub mod Lines
-pub mod Lookup
 pub mod Ran
 pub mod Read
 pub mod Run

@@ -1,4 +1,4 @@
-//! Taking the symbol file, and the line that refuses it.
+//! Taking the symbol file, and ending a run that refuses it.
 ghost use Rattle.std.specs.Prelude.{◌≡◌, ◌≢◌, ◌<◌, ◌+◌, ◌++◌, length, IsErrOf, IfOk, IfSome, OnOk};
 ghost use Rattle.std.specs.Io.KnownBytes.{Consumes};
 ghost use Rattle.layer_base.specs.Counts.{HasCause};
@@ -6,16 +6,17 @@ ghost use Rattle.layer_base.specs.Known.{Writes};
 ghost use Rattle.isf_reader.specs.Table.{most_bytes};
 ghost use Rattle.session.specs.Headline.{GaveAtMost, GavePrefix};
 ghost use Rattle.session.specs.Ran.{IsTableEnd};
-ghost use Rattle.session.specs.SymbolFile.{EndsRefused, TakesPiece, symbols_taken, section_word, key_word, name_word, refusal_words, symbols_refusal_text};
+ghost use Rattle.symbol_texts.specs.Refusal.{symbols_refusal_text};
+ghost use Rattle.session.specs.SymbolFile.{EndsRefused, TakesPiece, symbols_taken};
 ghost use Rattle.session.specs.declared.symbols.SymbolsFault.TheVariants as faults;
 
 use crate::Status;
 use crate::command::write_text;
 use crate::status::{CommandFault, status_after};
-use cell_text::append_text;
-use isf_reader::{IsfRefusal, Key, Section};
+use isf_reader::IsfRefusal;
 use layer_base::{Failed, Sink, Source};
 use std::alloc::{AllocError, Global};
+use symbol_texts::symbols_refusal_text;
 
 /// The most bytes of a symbol file that are taken: one more than it may have, so that a longer one shows.
 const MOST_TAKEN: usize = 134_217_729;
@@ -92,80 +93,6 @@ pub(crate) fn take_symbols<J: Source>(
     Ok(bytes)
 }
 
-fn section_word(section: Section) -> &'static [u8]
-    ensures { result.now ≡ section_word section }
-{
-    match section {
-        Section::File => b"file",
-        Section::BaseTypes => b"base_types",
-        Section::Enums => b"enums",
-        Section::UserTypes => b"user_types",
-        Section::Symbols => b"symbols",
-    }
-}
-
-fn key_word(key: Key) -> &'static [u8]
-    ensures { result.now ≡ key_word key }
-{
-    match key {
-        Key::Whole => b"whole",
-        Key::Size => b"size",
-        Key::Signed => b"signed",
-        Key::Kind => b"kind",
-        Key::Endian => b"endian",
-        Key::Base => b"base",
-        Key::Constants => b"constants",
-        Key::Fields => b"fields",
-        Key::Address => b"address",
-        Key::Of => b"type",
-        Key::ConstantData => b"constant_data",
-    }
-}
-
-fn append_name(text: &mut Vec<u8>, name: &[u8]) -> Result<(), AllocError>
-    ensures { OnOk result (text.new.items ≡ text.old.items ++ name_word name.now) }
-{
-    match name {
-        [] => Ok(text.push(b'-')?),
-        name => append_text(text, name),
-    }
-}
-
-fn append_words(text: &mut Vec<u8>, refusal: &IsfRefusal) -> Result<(), AllocError>
-    ensures { OnOk result (text.new.items ≡ text.old.items ++ refusal_words refusal.now) }
-{
-    match refusal {
-        IsfRefusal::TooLarge { .. } => {
-            text.extend_from_slice(b"more than 134217728 bytes")?;
-        }
-        IsfRefusal::NotJson => text.extend_from_slice(b"not json")?,
-        IsfRefusal::BadEntry { section, name, key } => {
-            text.extend_from_slice(section_word(*section))?;
-            text.push(b' ')?;
-            append_name(text, name.items())?;
-            text.push(b' ')?;
-            text.extend_from_slice(key_word(*key))?;
-        }
-        IsfRefusal::AnonDepth { name } => {
-            text.extend_from_slice(b"anonymous depth ")?;
-            append_name(text, name.items())?;
-        }
-        IsfRefusal::Memory => {}
-    }
-    Ok(())
-}
-
-#[tactic(auto, unfolding(crate::specs::SymbolFile::symbols_refusal_text))]
-fn refusal_line(alloc: Global, refusal: &IsfRefusal) -> Result<Vec<u8>, AllocError>
-    ensures { IfOk result (λ line. line.items ≡ symbols_refusal_text refusal.now) }
-{
-    let mut line = Vec::new(alloc);
-    line.extend_from_slice(b"symbols refused: ")?;
-    append_words(&mut line, refusal)?;
-    line.push(b'\n')?;
-    Ok(line)
-}
-
 // Writes the line that says the refusal.
 fn write_refusal<O: Sink>(
     alloc: Global,
@@ -176,7 +103,7 @@ fn write_refusal<O: Sink>(
     ensures out { HasCause (O.faults out.old) (O.faults out.new) (IsErrOf result CommandFault.Out) }
     ensures image { IsErrOf result CommandFault.Image → ⊥ }
 {
-    let line = refusal_line(alloc, refusal)?;
+    let line = symbols_refusal_text(alloc, refusal)?;
     write_text(out, &line)
 }
 
