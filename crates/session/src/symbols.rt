@@ -1,5 +1,5 @@
 //! Taking the symbol file, and ending a run that refuses it.
-ghost use Rattle.std.specs.Prelude.{◌≡◌, ◌≢◌, ◌<◌, ◌+◌, ◌++◌, length, IsErrOf, IfOk, IfSome, OnOk};
+ghost use Rattle.std.specs.Prelude.{◌≡◌, ◌≢◌, ◌<◌, ◌≤◌, ◌+◌, length, take, IsErrOf, IfOk, IfSome, OnOk};
 ghost use Rattle.std.specs.Io.KnownBytes.{Consumes};
 ghost use Rattle.layer_base.specs.Counts.{HasCause};
 ghost use Rattle.layer_base.specs.Known.{Writes};
@@ -21,7 +21,7 @@ use symbol_texts::symbols_refusal_text;
 /// The most bytes of a symbol file that are taken: one more than it may have, so that a longer one shows.
 const MOST_TAKEN: usize = 134_217_729;
 
-/// How many bytes one call asks for.
+/// How many bytes of room are made at once.
 const PIECE: usize = 1 << 20;
 
 /// Why a symbol file was not taken whole.
@@ -47,28 +47,32 @@ impl From<AllocError> for SymbolsFault {
     }
 }
 
-fn zeros(alloc: Global, count: usize) -> Result<Vec<u8>, AllocError>
-    ensures { IfOk result (λ bytes. length bytes.items ≡ count) }
+// Makes room for a piece behind the bytes that were taken, where none is left.
+fn make_room(bytes: &mut Vec<u8>, taken: usize) -> Result<(), AllocError>
+    requires within { taken ≤ length bytes.old.items }
+    requires few { taken ≤ most_bytes }
+    requires most { length bytes.old.items ≤ most_bytes + 1 }
+    ensures kept { OnOk result (take taken bytes.new.items ≡ take taken bytes.old.items) }
+    ensures room { OnOk result (taken < length bytes.new.items) }
+    ensures most { OnOk result (length bytes.new.items ≤ most_bytes + 1) }
 {
-    vec![in alloc; 0u8; count]
+    if taken == bytes.len() {
+        bytes.resize(taken + (MOST_TAKEN - taken).min(PIECE), 0)?;
+    }
+    Ok(())
 }
 
-// Takes a piece of the symbol file behind the bytes so far, and answers whether there was one.
+// Takes bytes of the symbol file behind those that were taken before, and answers how many.
 fn take_piece<J: Source>(
     symbols: &mut J,
-    room: &mut [u8],
     bytes: &mut Vec<u8>,
-) -> Result<bool, SymbolsFault>
-    requires { 0 < length room.old }
-    ensures taken { TakesPiece (J.left symbols.old) (J.left symbols.new) bytes.old.items bytes.new.items (length room.old) result }
+    taken: usize,
+) -> Result<usize, SymbolsFault>
+    requires { taken < length bytes.old.items }
+    ensures taken { TakesPiece (J.left symbols.old) (J.left symbols.new) taken bytes.old.items bytes.new.items result }
     ensures cause { HasCause (J.faults symbols.old) (J.faults symbols.new) (IsErrOf result SymbolsFault.Failed) }
 {
-    let count = symbols.read(room)?;
-    if count == 0 {
-        return Ok(false);
-    }
-    bytes.extend_from_slice(&room[..count])?;
-    Ok(true)
+    Ok(symbols.read(&mut bytes[taken..])?)
 }
 
 /// Takes the symbol file to its end, but at most one byte more than it may have.
@@ -82,14 +86,18 @@ pub(crate) fn take_symbols<J: Source>(
     ensures most { GaveAtMost (most_bytes + 1) (J.left symbols.old) (J.left symbols.new) }
     ensures cause { HasCause (J.faults symbols.old) (J.faults symbols.new) (IsErrOf result SymbolsFault.Failed) }
 {
-    let mut piece = zeros(alloc, PIECE)?;
     let mut bytes = Vec::new(alloc);
-    while bytes.len() < MOST_TAKEN {
-        let room = (MOST_TAKEN - bytes.len()).min(PIECE);
-        if !take_piece(symbols, &mut piece[..room], &mut bytes)? {
+    let mut taken = 0;
+    while taken < MOST_TAKEN {
+        make_room(&mut bytes, taken)?;
+        let count = take_piece(symbols, &mut bytes, taken)?;
+        if count == 0 {
+            bytes.truncate(taken);
             return Ok(bytes);
         }
+        taken += count;
     }
+    bytes.truncate(taken);
     Ok(bytes)
 }
 
