@@ -6,12 +6,13 @@ use Rattle.std.proofs.lemmas.List.{take_all}
 use Rattle.layer_base.specs.AddressSpace.{AddressSpace}
 use Rattle.isf_reader.specs.Table.{table_of}
 use Rattle.isf_reader.specs.declared.refusal.IsfRefusal.TheVariants.{TooLarge}
+use Rattle.symbol_texts.specs.Refusal.{symbols_refusal_text}
 use Rattle.session.specs.Evidence.{table_in}
 use Rattle.session.specs.Outcome.{Outcome}
 use Rattle.session.specs.Ran.{RanOver}
 use Rattle.session.specs.Run.{symbols_refused, table_run, behind_symbols}
 use Rattle.session.specs.Said.{Said}
-use Rattle.session.specs.SymbolFile.{symbols_taken, symbols_refusal_text}
+use Rattle.session.specs.SymbolFile.{symbols_taken}
 use Rattle.session.specs.declared.status.Status.{Status}
 
 -- a file that is too large is refused for that, whatever stands in it

@@ -13,9 +13,10 @@ use Rattle.command_words.specs.declared.command.Command.TheVariants as commands
 use Rattle.command_words.specs.declared.command.SpaceWord.{SpaceWord}
 use Rattle.command_words.specs.declared.command.SpaceWord.TheVariants as words
 use Rattle.hex_text.specs.DumpRow.{address_cell, dump_text}
+use Rattle.symbol_texts.specs.Layout.{layout_text}
+use Rattle.symbol_texts.specs.Symbols.{symbol_text, near_text}
 use Rattle.session.specs.Evidence.{Evidence}
 use Rattle.session.specs.Fault.{unknown_text}
-use Rattle.session.specs.Lookup.{layout_text, symbol_text, near_text}
 use Rattle.session.specs.declared.place.Place.{Place}
 
 -- the space of a word, None for a space that is not looked at yet

@@ -6,7 +6,6 @@ pub mod Headline
 pub mod Limits
 pub mod Line
 pub mod Lines
-pub mod Lookup
 pub mod Outcome
 pub mod Ran
 pub mod Read

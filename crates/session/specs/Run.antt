@@ -5,12 +5,13 @@ use Rattle.layer_base.specs.View.{View, physical}
 use Rattle.layer_base.specs.declared.layer.Kind.{Kind}
 use Rattle.isf_reader.specs.Table.{Sections, table_of}
 use Rattle.isf_reader.specs.declared.refusal.IsfRefusal.{IsfRefusal}
+use Rattle.symbol_texts.specs.Refusal.{symbols_refusal_text}
 use Rattle.session.specs.Evidence.{Evidence, evidence_over}
 use Rattle.session.specs.Line.{line_said, is_quit}
 use Rattle.session.specs.Outcome.{Outcome}
 use Rattle.session.specs.Script.{script_run}
 use Rattle.session.specs.Stack.{Shown, as_file, stack_of, attached, attached_view, refusal_text}
-use Rattle.session.specs.SymbolFile.{symbols_taken, symbols_refusal_text}
+use Rattle.session.specs.SymbolFile.{symbols_taken}
 use Rattle.session.specs.Words.{are_accepted}
 use Rattle.session.specs.declared.stack.Refusal.{Refusal}
 use Rattle.session.specs.declared.status.Status.TheVariants as status

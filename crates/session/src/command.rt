@@ -10,8 +10,7 @@ ghost use Rattle.session.specs.Fault.{wanted_text, unknown_text, fault_text};
 ghost use Rattle.session.specs.Line.{line_said, is_quit, flow_of};
 ghost use Rattle.session.specs.Turn.{flow_after};
 
-use crate::layout::layout_text;
-use crate::lookup::{near_text, symbol_text};
+use crate::lookup::{layout_text, symbol_text};
 use crate::place::place_of;
 use crate::read::{Page, write_read};
 use crate::status::CommandFault;
@@ -22,6 +21,7 @@ use layer_base::{Layer, Sink, Steps, write_whole};
 use space_memory::Memory;
 use std::alloc::{AllocError, Global};
 use std::sync::ledger::Ledger;
+use symbol_texts::near_text;
 
 /// Whether a script goes on behind a line.
 #[derive(Clone, Copy, Debug, PartialEq, Eq)]

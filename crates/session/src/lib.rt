@@ -3,7 +3,6 @@
 
 mod command;
 mod ended;
-mod layout;
 mod line_buffer;
 mod lookup;
 mod place;

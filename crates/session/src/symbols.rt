@@ -1,26 +1,27 @@
-//! Taking the symbol file, and the line that refuses it.
-ghost use Rattle.std.specs.Prelude.{◌≡◌, ◌≢◌, ◌<◌, ◌+◌, ◌++◌, length, IsErrOf, IfOk, IfSome, OnOk};
+//! Taking the symbol file, and ending a run that refuses it.
+ghost use Rattle.std.specs.Prelude.{◌≡◌, ◌≢◌, ◌<◌, ◌≤◌, ◌+◌, length, take, IsErrOf, IfOk, IfSome, OnOk};
 ghost use Rattle.std.specs.Io.KnownBytes.{Consumes};
 ghost use Rattle.layer_base.specs.Counts.{HasCause};
 ghost use Rattle.layer_base.specs.Known.{Writes};
 ghost use Rattle.isf_reader.specs.Table.{most_bytes};
 ghost use Rattle.session.specs.Headline.{GaveAtMost, GavePrefix};
 ghost use Rattle.session.specs.Ran.{IsTableEnd};
-ghost use Rattle.session.specs.SymbolFile.{EndsRefused, TakesPiece, symbols_taken, section_word, key_word, name_word, refusal_words, symbols_refusal_text};
+ghost use Rattle.symbol_texts.specs.Refusal.{symbols_refusal_text};
+ghost use Rattle.session.specs.SymbolFile.{EndsRefused, TakesPiece, symbols_taken};
 ghost use Rattle.session.specs.declared.symbols.SymbolsFault.TheVariants as faults;
 
 use crate::Status;
 use crate::command::write_text;
 use crate::status::{CommandFault, status_after};
-use cell_text::append_text;
-use isf_reader::{IsfRefusal, Key, Section};
+use isf_reader::IsfRefusal;
 use layer_base::{Failed, Sink, Source};
 use std::alloc::{AllocError, Global};
+use symbol_texts::symbols_refusal_text;
 
 /// The most bytes of a symbol file that are taken: one more than it may have, so that a longer one shows.
 const MOST_TAKEN: usize = 134_217_729;
 
-/// How many bytes one call asks for.
+/// How many bytes of room are made at once.
 const PIECE: usize = 1 << 20;
 
 /// Why a symbol file was not taken whole.
@@ -46,28 +47,32 @@ impl From<AllocError> for SymbolsFault {
     }
 }
 
-fn zeros(alloc: Global, count: usize) -> Result<Vec<u8>, AllocError>
-    ensures { IfOk result (λ bytes. length bytes.items ≡ count) }
+// Makes room for a piece behind the bytes that were taken, where none is left.
+fn make_room(bytes: &mut Vec<u8>, taken: usize) -> Result<(), AllocError>
+    requires within { taken ≤ length bytes.old.items }
+    requires few { taken ≤ most_bytes }
+    requires most { length bytes.old.items ≤ most_bytes + 1 }
+    ensures kept { OnOk result (take taken bytes.new.items ≡ take taken bytes.old.items) }
+    ensures room { OnOk result (taken < length bytes.new.items) }
+    ensures most { OnOk result (length bytes.new.items ≤ most_bytes + 1) }
 {
-    vec![in alloc; 0u8; count]
+    if taken == bytes.len() {
+        bytes.resize(taken + (MOST_TAKEN - taken).min(PIECE), 0)?;
+    }
+    Ok(())
 }
 
-// Takes a piece of the symbol file behind the bytes so far, and answers whether there was one.
+// Takes bytes of the symbol file behind those that were taken before, and answers how many.
 fn take_piece<J: Source>(
     symbols: &mut J,
-    room: &mut [u8],
     bytes: &mut Vec<u8>,
-) -> Result<bool, SymbolsFault>
-    requires { 0 < length room.old }
-    ensures taken { TakesPiece (J.left symbols.old) (J.left symbols.new) bytes.old.items bytes.new.items (length room.old) result }
+    taken: usize,
+) -> Result<usize, SymbolsFault>
+    requires { taken < length bytes.old.items }
+    ensures taken { TakesPiece (J.left symbols.old) (J.left symbols.new) taken bytes.old.items bytes.new.items result }
     ensures cause { HasCause (J.faults symbols.old) (J.faults symbols.new) (IsErrOf result SymbolsFault.Failed) }
 {
-    let count = symbols.read(room)?;
-    if count == 0 {
-        return Ok(false);
-    }
-    bytes.extend_from_slice(&room[..count])?;
-    Ok(true)
+    Ok(symbols.read(&mut bytes[taken..])?)
 }
 
 /// Takes the symbol file to its end, but at most one byte more than it may have.
@@ -81,89 +86,19 @@ pub(crate) fn take_symbols<J: Source>(
     ensures most { GaveAtMost (most_bytes + 1) (J.left symbols.old) (J.left symbols.new) }
     ensures cause { HasCause (J.faults symbols.old) (J.faults symbols.new) (IsErrOf result SymbolsFault.Failed) }
 {
-    let mut piece = zeros(alloc, PIECE)?;
     let mut bytes = Vec::new(alloc);
-    while bytes.len() < MOST_TAKEN {
-        let room = (MOST_TAKEN - bytes.len()).min(PIECE);
-        if !take_piece(symbols, &mut piece[..room], &mut bytes)? {
+    let mut taken = 0;
+    while taken < MOST_TAKEN {
+        make_room(&mut bytes, taken)?;
+        let count = take_piece(symbols, &mut bytes, taken)?;
+        if count == 0 {
+            bytes.truncate(taken);
             return Ok(bytes);
         }
+        taken += count;
     }
+    bytes.truncate(taken);
     Ok(bytes)
-}
-
-fn section_word(section: Section) -> &'static [u8]
-    ensures { result.now ≡ section_word section }
-{
-    match section {
-        Section::File => b"file",
-        Section::BaseTypes => b"base_types",
-        Section::Enums => b"enums",
-        Section::UserTypes => b"user_types",
-        Section::Symbols => b"symbols",
-    }
-}
-
-fn key_word(key: Key) -> &'static [u8]
-    ensures { result.now ≡ key_word key }
-{
-    match key {
-        Key::Whole => b"whole",
-        Key::Size => b"size",
-        Key::Signed => b"signed",
-        Key::Kind => b"kind",
-        Key::Endian => b"endian",
-        Key::Base => b"base",
-        Key::Constants => b"constants",
-        Key::Fields => b"fields",
-        Key::Address => b"address",
-        Key::Of => b"type",
-        Key::ConstantData => b"constant_data",
-    }
-}
-
-fn append_name(text: &mut Vec<u8>, name: &[u8]) -> Result<(), AllocError>
-    ensures { OnOk result (text.new.items ≡ text.old.items ++ name_word name.now) }
-{
-    match name {
-        [] => Ok(text.push(b'-')?),
-        name => append_text(text, name),
-    }
-}
-
-fn append_words(text: &mut Vec<u8>, refusal: &IsfRefusal) -> Result<(), AllocError>
-    ensures { OnOk result (text.new.items ≡ text.old.items ++ refusal_words refusal.now) }
-{
-    match refusal {
-        IsfRefusal::TooLarge { .. } => {
-            text.extend_from_slice(b"more than 134217728 bytes")?;
-        }
-        IsfRefusal::NotJson => text.extend_from_slice(b"not json")?,
-        IsfRefusal::BadEntry { section, name, key } => {
-            text.extend_from_slice(section_word(*section))?;
-            text.push(b' ')?;
-            append_name(text, name.items())?;
-            text.push(b' ')?;
-            text.extend_from_slice(key_word(*key))?;
-        }
-        IsfRefusal::AnonDepth { name } => {
-            text.extend_from_slice(b"anonymous depth ")?;
-            append_name(text, name.items())?;
-        }
-        IsfRefusal::Memory => {}
-    }
-    Ok(())
-}
-
-#[tactic(auto, unfolding(crate::specs::SymbolFile::symbols_refusal_text))]
-fn refusal_line(alloc: Global, refusal: &IsfRefusal) -> Result<Vec<u8>, AllocError>
-    ensures { IfOk result (λ line. line.items ≡ symbols_refusal_text refusal.now) }
-{
-    let mut line = Vec::new(alloc);
-    line.extend_from_slice(b"symbols refused: ")?;
-    append_words(&mut line, refusal)?;
-    line.push(b'\n')?;
-    Ok(line)
 }
 
 // Writes the line that says the refusal.
@@ -177,7 +112,7 @@ fn write_refusal<O: Sink>(
     ensures image { IsErrOf result CommandFault.Image → ⊥ }
     ensures dump { IsErrOf result CommandFault.Dump → ⊥ }
 {
-    let line = refusal_line(alloc, refusal)?;
+    let line = symbols_refusal_text(alloc, refusal)?;
     write_text(out, &line)
 }
 

@@ -1,15 +1,13 @@
-use Rattle.std.proofs.Common.{◌≡◌, ◌-◌, ◌≤◌, length}
-use Rattle.std.specs.Io.KnownBytes.{Consumes}
-use Rattle.session.specs.declared.symbols.TheConstants.{PIECE}
+use Rattle.std.proofs.Common.{◌-◌, ◌≤◌}
+use Rattle.session.proofs.Taking.{HasTaken}
 use Rattle.session.proofs.symbols.take_symbols.Given as goal
 
-abbrev pub invariant-loop-bytes : goal.invariant-loop-bytes
-invariant-loop-bytes g l = record {
-  given : Consumes (g.J.Source.left l.fn.symbols) (g.J.Source.left l.symbols) l.bytes.items;
-  within : length l.bytes.items ≤ 134217729;
-  piece : length l.piece.items ≡ PIECE;
+-- the bytes so far stand at the front of the room for them
+abbrev pub invariant-loop-taken : goal.invariant-loop-taken
+invariant-loop-taken g l = record {
+  so_far : HasTaken (g.J.Source.left l.fn.symbols) (g.J.Source.left l.symbols) l.bytes.items l.taken;
   kept : g.J.Source.faults l.fn.symbols ≤ g.J.Source.faults l.symbols;
 }
 
-abbrev pub decreases-loop-bytes : goal.decreases-loop-bytes
-decreases-loop-bytes g l = 134217729 - length l.bytes.items
+abbrev pub decreases-loop-taken : goal.decreases-loop-taken
+decreases-loop-taken g l = 134217729 - l.taken

@@ -1,14 +1,13 @@
-//! The command that prints how a type is laid out.
+//! How a type is laid out.
 ghost use Rattle.std.specs.Prelude.{◌≡◌, ◌++◌, OnOk, IfOk};
 ghost use Rattle.std.specs.List.{flat_map};
-ghost use Rattle.session.specs.Lookup.{field_row, user_word, user_text, constant_row, enum_text, base_word, sign_word, order_word, base_text, layout_text};
+ghost use Rattle.symbol_texts.specs.Layout.{field_row, user_word, user_text, constant_row, enum_text, base_word, sign_word, order_word, base_text, layout_text};
 
 use cell_text::{append_number, append_text, append_type};
 use isf_reader::{BaseKind, BaseType, Constant, EnumType, Field, Table, UserKind, UserType};
-use layer_base::Name;
 use std::alloc::{AllocError, Global};
 
-#[tactic(auto, unfolding(crate::specs::Lookup::field_row))]
+#[tactic(auto, unfolding(crate::specs::Layout::field_row))]
 fn append_field(text: &mut Vec<u8>, field: &Field) -> Result<(), AllocError>
     ensures { OnOk result (text.new.items ≡ text.old.items ++ field_row field.now) }
 {
@@ -40,7 +39,7 @@ fn user_word(kind: UserKind) -> &'static [u8]
     }
 }
 
-#[tactic(auto, unfolding(crate::specs::Lookup::user_text))]
+#[tactic(auto, unfolding(crate::specs::Layout::user_text))]
 fn user_text(alloc: Global, name: &[u8], user: &UserType) -> Result<Vec<u8>, AllocError>
     ensures { IfOk result (λ text. text.items ≡ user_text name.now user.now) }
 {
@@ -54,7 +53,7 @@ fn user_text(alloc: Global, name: &[u8], user: &UserType) -> Result<Vec<u8>, All
     Ok(text)
 }
 
-#[tactic(auto, unfolding(crate::specs::Lookup::constant_row))]
+#[tactic(auto, unfolding(crate::specs::Layout::constant_row))]
 fn append_constant(text: &mut Vec<u8>, constant: &Constant) -> Result<(), AllocError>
     ensures { OnOk result (text.new.items ≡ text.old.items ++ constant_row constant.now) }
 {
@@ -74,7 +73,7 @@ fn append_constants(text: &mut Vec<u8>, constants: &[Constant]) -> Result<(), Al
     Ok(())
 }
 
-#[tactic(auto, unfolding(crate::specs::Lookup::enum_text))]
+#[tactic(auto, unfolding(crate::specs::Layout::enum_text))]
 fn enum_text(alloc: Global, name: &[u8], enumeration: &EnumType) -> Result<Vec<u8>, AllocError>
     ensures { IfOk result (λ text. text.items ≡ enum_text name.now enumeration.now) }
 {
@@ -114,7 +113,7 @@ fn order_word(big: bool) -> &'static [u8]
     if big { b" big\n" } else { b" little\n" }
 }
 
-#[tactic(auto, unfolding(crate::specs::Lookup::base_text))]
+#[tactic(auto, unfolding(crate::specs::Layout::base_text))]
 fn base_text(alloc: Global, name: &[u8], base: &BaseType) -> Result<Vec<u8>, AllocError>
     ensures { IfOk result (λ text. text.items ≡ base_text name.now base.now) }
 {
@@ -129,11 +128,15 @@ fn base_text(alloc: Global, name: &[u8], base: &BaseType) -> Result<Vec<u8>, All
     Ok(text)
 }
 
-/// The layout of the user type of a name, else of the enum, else of the base type.
-pub(crate) fn layout_text(alloc: Global, table: &Table, name: &Name) -> Result<Vec<u8>, AllocError>
+/// Returns the layout of the user type of a name, else of the enum, else of the base type, and `error: no type` where a
+/// table has none of them. A user type has its kind, name and size, and a row for each field: the offset, the name and
+/// the type; an enum its name, size and base type, and a row for each constant: the value and the name; a base type its
+/// name, size, kind, sign and byte order. Sizes and offsets are bytes, numbers are decimal, rows are in the table's
+/// order, and each line ends with a newline. The entries are those of the ISF schema; docs/texts.md, "layout NAME", has
+/// the form. The only error is out of memory.
+pub fn layout_text(alloc: Global, table: &Table, name: &[u8]) -> Result<Vec<u8>, AllocError>
     ensures { IfOk result (λ text. text.items ≡ layout_text table.now name.now) }
 {
-    let name = name.items();
     if let Some(user) = table.user(name) {
         return user_text(alloc, name, user);
     }

@@ -1,8 +1,7 @@
--- What the commands print that look into the symbol file.
-use Rattle.std.specs.Prelude.{ℕ, ◌-◌, Bool, true, false, List, ◌++◌, codes, Option, None, Some}
+-- What is printed of a type: how it is laid out.
+use Rattle.std.specs.Prelude.{ℕ, Bool, true, false, List, ◌++◌, codes, Option, None, Some}
 use Rattle.std.specs.Fmt.{decimal, signed_decimal}
 use Rattle.std.specs.List.{flat_map}
-use Rattle.hex_text.specs.DumpRow.{address_cell}
 use Rattle.cell_text.specs.TextCell.{text_cell}
 use Rattle.cell_text.specs.TypeCell.{type_cell}
 use Rattle.isf_reader.specs.Depth.{entry_named}
@@ -12,14 +11,10 @@ use Rattle.isf_reader.specs.declared.base_type.BaseKind.TheVariants as bases
 use Rattle.isf_reader.specs.declared.base_type.BaseType.{BaseType}
 use Rattle.isf_reader.specs.declared.enum_type.Constant.{Constant}
 use Rattle.isf_reader.specs.declared.enum_type.EnumType.{EnumType}
-use Rattle.isf_reader.specs.declared.type_ref.TypeRef.{TypeRef}
 use Rattle.isf_reader.specs.declared.user_type.Field.{Field}
 use Rattle.isf_reader.specs.declared.user_type.UserKind.{UserKind}
 use Rattle.isf_reader.specs.declared.user_type.UserKind.TheVariants as users
 use Rattle.isf_reader.specs.declared.user_type.UserType.{UserType}
-use Rattle.symbol_index.specs.Index.{Told, by_name, at_or_before}
-
--- ---- layouts
 
 -- a field: its offset, its name and its type
 unfoldable pub field_row : Field → List ℕ
@@ -70,36 +65,3 @@ layout_by name None None None = codes "error: no type\n"
 
 abbrev pub layout_text : Sections → List ℕ → List ℕ
 layout_text table name = layout_by name (entry_named name table.users) (entry_named name table.enums) (entry_named name table.bases)
-
--- ---- symbols
-
--- the type of a symbol, or that it has none
-abbrev pub type_or_none : Option TypeRef → List ℕ
-type_or_none None = codes "-"
-type_or_none (Some of) = type_cell of
-
--- a symbol's address and its type
-unfoldable pub symbol_row : Told → List ℕ
-symbol_row symbol = address_cell symbol.address ++ codes "\t" ++ type_or_none symbol.of ++ codes "\n"
-
--- that a name has no symbol
-unfoldable pub no_symbol_text : List ℕ → List ℕ
-no_symbol_text name = codes "error: no symbol " ++ text_cell name ++ codes "\n"
-
-abbrev pub symbol_or_none : List ℕ → Option Told → List ℕ
-symbol_or_none name None = no_symbol_text name
-symbol_or_none name (Some symbol) = symbol_row symbol
-
-abbrev pub symbol_text : Sections → List ℕ → List ℕ
-symbol_text table name = symbol_or_none name (by_name name table.symbols)
-
--- a symbol's address and name, and how far behind it a number is
-unfoldable pub near_row : ℕ → Told → List ℕ
-near_row number symbol = address_cell symbol.address ++ codes "\t" ++ text_cell symbol.name ++ codes "\t+" ++ decimal (number - symbol.address) ++ codes "\n"
-
-abbrev pub near_or_none : ℕ → Option Told → List ℕ
-near_or_none number None = codes "error: no symbol\n"
-near_or_none number (Some symbol) = near_row number symbol
-
-abbrev pub near_text : Sections → ℕ → List ℕ
-near_text table number = near_or_none number (at_or_before number table.symbols)

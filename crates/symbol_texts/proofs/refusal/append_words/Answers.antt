@@ -1,7 +1,7 @@
 use Rattle.std.proofs.Common.{ℕ, List, ◌++◌, ◌∙◌, ap, append_assoc}
 use Rattle.std.specs.Prelude.{codes}
-use Rattle.session.specs.SymbolFile.{name_word}
-use Rattle.session.proofs.symbols.append_words.Goals as goal
+use Rattle.symbol_texts.specs.Refusal.{name_word}
+use Rattle.symbol_texts.proofs.refusal.append_words.Goals as goal
 
 pub returns-in_ok-append_name-in-AnonDepth : goal.returns-in_ok-append_name-in-AnonDepth
 returns-in_ok-append_name-in-AnonDepth c =
