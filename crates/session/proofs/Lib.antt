@@ -13,3 +13,4 @@ pub mod Taking
 pub mod SymbolRuns
 pub mod AtMost
 pub mod Attached
+pub mod RunLines

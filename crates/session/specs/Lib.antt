@@ -4,11 +4,14 @@ pub mod Evidence
 pub mod Fault
 pub mod Headline
 pub mod Limits
+pub mod Line
 pub mod Lines
 pub mod Lookup
+pub mod Place
 pub mod Ran
 pub mod Read
 pub mod Run
+pub mod Said
 pub mod Script
 pub mod Stack
 pub mod Status

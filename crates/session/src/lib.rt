@@ -3,6 +3,7 @@
 
 mod command;
 mod ended;
+mod error_line;
 mod layout;
 mod line_buffer;
 mod lookup;
