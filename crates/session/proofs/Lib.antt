@@ -10,6 +10,7 @@ pub mod Pieces
 pub mod Projections
 pub mod Quits
 pub mod Refusals
+pub mod RunLines
 pub mod Sinks
 pub mod Statuses
 pub mod SymbolRuns

@@ -3,6 +3,7 @@ use Rattle.std.proofs.Common.{◌≡◌, ℕ, true, false, List, [], Option, Som
 use Rattle.std.proofs.KnownBytes.{Consumes-nil}
 use Rattle.layer_base.specs.AddressSpace.{AddressSpace}
 use Rattle.layer_base.specs.Known.{Writes}
+use Rattle.layer_base.specs.declared.sink.SinkFault.{SinkFault}
 use Rattle.layer_base.specs.View.{View}
 use Rattle.layer_base.specs.declared.layer.Kind.{Kind}
 use Rattle.isf_reader.specs.Table.{Sections, RefusesAs}
@@ -14,12 +15,12 @@ use Rattle.session.specs.Outcome.{Outcome}
 use Rattle.session.specs.Said.{Said, text_part, dump_part}
 use Rattle.session.specs.Run.{refused, symbols_refused, table_run, stack_run, run_of}
 use Rattle.session.specs.Stack.{stack_of}
-use Rattle.session.specs.Status.{IsAnswer, status_after}
+use Rattle.session.specs.Status.{IsAnswer, line_result, status_after_line}
 use Rattle.session.specs.SymbolFile.{EndsRefused}
 use Rattle.session.specs.Words.{are_accepted}
-use Rattle.session.specs.declared.status.CommandFault.{CommandFault}
 use Rattle.session.specs.declared.status.Status.{Status}
 use Rattle.session.specs.declared.status.Status.TheVariants as status
+use Rattle.session.proofs.RunLines.{Writes-line}
 use Rattle.session.proofs.Sinks.{part-line, part-none}
 use Rattle.session.proofs.Statuses.{answer-done}
 
@@ -33,16 +34,16 @@ run_of-refused words formats view symbols script not_accepted = rw not_accepted 
 
 -- A run that takes nothing of the script, dumps nothing and has nothing but a line to write ended, or the line was cut
 -- short.
-module _ (says : List ℕ → Said) (outcome : Outcome) (none : outcome.script_taken ≡ []) (undumped : outcome.dumped ≡ []) (script : List ℕ) (out out' dump : Option (List ℕ)) (result : Result (Unit {0}) CommandFault) where
-  pub line-ended : Writes out out' result outcome.text → RanOver says outcome script (Some script) out out' dump dump (status_after outcome.status result)
+module _ (says : List ℕ → Said) (outcome : Outcome) (none : outcome.script_taken ≡ []) (undumped : outcome.dumped ≡ []) (script : List ℕ) (out out' dump : Option (List ℕ)) (written : Result (Unit {0}) SinkFault) where
+  pub line-ended : Writes out out' written outcome.text → RanOver says outcome script (Some script) out out' dump dump (status_after_line outcome.status written)
   line-ended writes = record {
     given = [];
     consumed = refl;
     given_front = refl;
     given_exact = λ answer. sym none;
-    status_is = answer-done outcome.status result;
-    text = part-line (text_part says) outcome.text out out' outcome.status result writes;
-    dumped = part-none (dump_part says) outcome.dumped dump (status_after outcome.status result) (λ answer. undumped);
+    status_is = answer-done outcome.status (line_result written);
+    text = part-line (text_part says) outcome.text out out' outcome.status (line_result written) (Writes-line out out' written outcome.text writes);
+    dumped = part-none (dump_part says) outcome.dumped dump (status_after_line outcome.status written) (λ answer. undumped);
   }
 
 -- A run that a fault of the image or running out of memory ended before the script.

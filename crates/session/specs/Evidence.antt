@@ -1,17 +1,22 @@
 -- What a script is run over.
-use Rattle.std.specs.Prelude.{ℕ, List, [], Result, Ok, Err}
+use Rattle.std.specs.Prelude.{ℕ, Bool, false, List, [], Result, Ok, Err}
 use Rattle.layer_base.specs.AddressSpace.{AddressSpace}
 use Rattle.layer_base.specs.View.{View, physical}
 use Rattle.isf_reader.specs.Table.{Sections, table_of}
 use Rattle.isf_reader.specs.declared.refusal.IsfRefusal.{IsfRefusal}
 
--- the physical memory of an image, and the table of a symbol file
+-- the physical memory of an image, the table of a symbol file, and whether there is a file for dumps
 pub record Evidence : Type 0 where
   pub memory : AddressSpace
   pub table : Sections
+  pub has_dump : Bool
+
+-- a memory and a table; no word for a dump is accepted yet
+abbrev pub evidence_at : AddressSpace → Sections → Evidence
+evidence_at memory table = record { memory = memory; table = table; has_dump = false }
 
 abbrev pub evidence_in : View → Sections → Evidence
-evidence_in view table = record { memory = physical view; table = table }
+evidence_in view table = evidence_at (physical view) table
 
 -- a refused symbol file has no entries
 abbrev pub table_in : Result Sections IsfRefusal → Sections
@@ -19,4 +24,4 @@ table_in (Ok table) = table
 table_in (Err refusal) = record { bases = []; enums = []; users = []; symbols = [] }
 
 abbrev pub evidence_over : AddressSpace → List ℕ → Evidence
-evidence_over memory symbols = record { memory = memory; table = table_in (table_of symbols) }
+evidence_over memory symbols = evidence_at memory (table_in (table_of symbols))

@@ -7,6 +7,7 @@ pub mod Limits
 pub mod Line
 pub mod Lines
 pub mod Outcome
+pub mod Place
 pub mod Ran
 pub mod Read
 pub mod Run

@@ -4,7 +4,7 @@ use Rattle.command_words.specs.Line.{command_of}
 use Rattle.command_words.specs.declared.command.Command.{Command}
 use Rattle.command_words.specs.declared.command.Command.TheVariants.{Quit}
 use Rattle.command_words.specs.declared.fault.LineFault.{LineFault}
-use Rattle.session.specs.Command.{command_text}
+use Rattle.session.specs.Command.{command_said}
 use Rattle.session.specs.Evidence.{Evidence}
 use Rattle.session.specs.Fault.{fault_text}
 use Rattle.session.specs.Said.{Said, prints}
@@ -13,7 +13,7 @@ use Rattle.session.specs.declared.command.Flow.{Flow}
 
 -- what a line's command says, or the error line of a line that is no command
 abbrev pub said_of : Evidence → Result Command LineFault → Said
-said_of evidence (Ok command) = prints (command_text evidence command)
+said_of evidence (Ok command) = command_said evidence command
 said_of evidence (Err fault) = prints (fault_text fault)
 
 abbrev pub line_said : Evidence → List ℕ → Said

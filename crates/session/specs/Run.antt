@@ -6,7 +6,7 @@ use Rattle.layer_base.specs.declared.layer.Kind.{Kind}
 use Rattle.isf_reader.specs.Table.{Sections, table_of}
 use Rattle.isf_reader.specs.declared.refusal.IsfRefusal.{IsfRefusal}
 use Rattle.symbol_texts.specs.Refusal.{symbols_refusal_text}
-use Rattle.session.specs.Evidence.{Evidence, evidence_over}
+use Rattle.session.specs.Evidence.{Evidence, evidence_at, evidence_over}
 use Rattle.session.specs.Line.{line_said, is_quit}
 use Rattle.session.specs.Outcome.{Outcome}
 use Rattle.session.specs.Script.{script_run}
@@ -48,7 +48,7 @@ symbols_refused refusal = record {
 
 -- the script is run over a memory and the table of a symbol file
 abbrev pub table_run : AddressSpace → Result Sections IsfRefusal → List ℕ → Outcome
-table_run memory (Ok table) script = script_run (line_said (record { memory = memory; table = table })) is_quit script
+table_run memory (Ok table) script = script_run (line_said (evidence_at memory table)) is_quit script
 table_run memory (Err refusal) script = symbols_refused refusal
 
 -- the symbol file was taken before that

@@ -6,6 +6,8 @@ use Rattle.session.specs.declared.status.Status.{Status}
 use Rattle.session.specs.declared.status.Status.TheVariants as status
 use Rattle.session.specs.declared.status.CommandFault.{CommandFault}
 use Rattle.session.specs.declared.status.CommandFault.TheVariants as fault
+use Rattle.session.specs.declared.status.PluginFault.{PluginFault}
+use Rattle.session.specs.declared.status.PluginFault.TheVariants as plugin
 
 abbrev pub number_of_status : Status → ℕ
 number_of_status status.Ok = 0
@@ -33,13 +35,31 @@ abbrev pub fault_of_sink : SinkFault → CommandFault
 fault_of_sink sink.Failed = fault.Out
 fault_of_sink sink.Memory = fault.Memory
 
+abbrev pub plugin_fault_of_sink : SinkFault → PluginFault
+plugin_fault_of_sink sink.Failed = plugin.Out
+plugin_fault_of_sink sink.Memory = plugin.Memory
+
+abbrev pub fault_of_plugin : PluginFault → CommandFault
+fault_of_plugin plugin.Device = fault.Image
+fault_of_plugin plugin.Out = fault.Out
+fault_of_plugin plugin.Memory = fault.Memory
+
 abbrev pub status_of_fault : CommandFault → Status
 status_of_fault fault.Image = status.ImageFault
 status_of_fault fault.Out = status.OutFault
 status_of_fault fault.Dump = status.DumpFault
 status_of_fault fault.Memory = status.Memory
 
--- the status of a run whose last write came to this
+-- the status of a run whose last line came to this
 abbrev pub status_after : Status → Result (Unit {0}) CommandFault → Status
 status_after done (Ok _) = done
 status_after done (Err fault) = status_of_fault fault
+
+-- what the writing of a line came to, as what the line came to
+abbrev pub line_result : Result (Unit {0}) SinkFault → Result (Unit {0}) CommandFault
+line_result (Ok _) = Ok tt
+line_result (Err fault) = Err (fault_of_sink fault)
+
+-- the status of a run that ends with a line of its own, the writing of which came to this
+abbrev pub status_after_line : Status → Result (Unit {0}) SinkFault → Status
+status_after_line done written = status_after done (line_result written)

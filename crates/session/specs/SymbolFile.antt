@@ -6,8 +6,8 @@ use Rattle.isf_reader.specs.declared.refusal.IsfRefusal.{IsfRefusal}
 use Rattle.isf_reader.specs.declared.refusal.IsfRefusal.TheVariants as refusals
 use Rattle.layer_base.specs.Known.{Writes}
 use Rattle.symbol_texts.specs.Refusal.{symbols_refusal_text}
-use Rattle.session.specs.Status.{status_after}
-use Rattle.session.specs.declared.status.CommandFault.{CommandFault}
+use Rattle.layer_base.specs.declared.sink.SinkFault.{SinkFault}
+use Rattle.session.specs.Status.{status_after_line}
 use Rattle.session.specs.declared.status.Status.{Status}
 use Rattle.session.specs.declared.status.Status.TheVariants as status
 use Rattle.session.specs.declared.symbols.SymbolsFault.{SymbolsFault}
@@ -31,4 +31,4 @@ pub record TakesPiece (left left' : Option (List ℕ)) (taken : ℕ) (bytes byte
 -- it wrote nothing.
 abbrev pub EndsRefused : IsfRefusal → Option (List ℕ) → Option (List ℕ) → Status → Type 0
 EndsRefused refusals.Memory old new end = (new ≡ old) × (end ≡ status.Memory)
-EndsRefused refusal old new end = (written : Result (Unit {0}) CommandFault) × Writes old new written (symbols_refusal_text refusal) × (end ≡ status_after status.SymbolsRefused written)
+EndsRefused refusal old new end = (written : Result (Unit {0}) SinkFault) × Writes old new written (symbols_refusal_text refusal) × (end ≡ status_after_line status.SymbolsRefused written)

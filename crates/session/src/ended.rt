@@ -20,16 +20,15 @@ ghost use Rattle.session.specs.Status.{IsAnswer};
 ghost use Rattle.session.specs.SymbolFile.{symbols_taken};
 
 use crate::Status;
-use crate::command::write_text;
 use crate::read::Page;
 use crate::script::run_script;
 use crate::stack::{StackFault, attach_formats, write_refusal};
-use crate::status::status_after;
+use crate::status::status_after_line;
 use crate::symbol_file::SymbolFile;
 use crate::symbols::{SymbolsFault, refuse_symbols, take_symbols};
 use crate::words::are_accepted;
 use isf_reader::Table;
-use layer_base::{Kind, Layer, Sink, Source, Steps};
+use layer_base::{Kind, Layer, Sink, Source, Steps, write_whole};
 use space_memory::Memory;
 use std::alloc::Global;
 use std::sync::ledger::Ledger;
@@ -194,7 +193,7 @@ fn run_image<Y: Layer, J: Source, S: Source, O: Sink, D: Sink, L: Ledger>(
         Ok(()) => run_memory(alloc, image, symbols, script, out, dump, steps),
         Err(StackFault::Refused(refusal)) => {
             let refused = write_refusal(alloc, refusal, out);
-            (status_after(Status::ImageRefused, refused), image)
+            (status_after_line(Status::ImageRefused, refused), image)
         }
         Err(StackFault::Device) => (Status::ImageFault, image),
         Err(StackFault::Memory) => (Status::Memory, image),
@@ -227,7 +226,7 @@ fn run_over<Y: Layer, J: Source, S: Source, O: Sink, D: Sink, L: Ledger>(
     ensures causes { FaultsHaveCause (Y.faults image) (Y.faults result.1) (S.faults script.old) (S.faults script.new) (O.faults out.old) (O.faults out.new) (D.faults dump.old) (D.faults dump.new) result.0 }
 {
     if !are_accepted(words) {
-        return (status_after(Status::Usage, write_text(out, USAGE)), image);
+        return (status_after_line(Status::Usage, write_whole(out, USAGE)), image);
     }
     run_image(alloc, image, formats, symbols, script, out, dump, steps)
 }

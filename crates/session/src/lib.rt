@@ -3,6 +3,7 @@
 
 mod command;
 mod ended;
+mod error_line;
 mod line_buffer;
 mod lookup;
 mod place;

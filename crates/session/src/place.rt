@@ -1,6 +1,7 @@
 //! The places that a line names.
-ghost use Rattle.std.specs.Prelude.{◌≡◌};
-ghost use Rattle.session.specs.Command.{space_of, place_of};
+ghost use Rattle.std.specs.Prelude.{◌≡◌, ◌+◌, ◌^◌, ◌≤◌, IfOk};
+ghost use Rattle.command_words.specs.Limits.{EndsInRange};
+ghost use Rattle.session.specs.Place.{space_of, address_of, at_address, refusal_text};
 
 use command_words::{AddrWord, SpaceWord};
 use layer_base::Space;
@@ -12,26 +13,49 @@ pub(crate) struct Place {
     pub(crate) at: u64,
 }
 
-/// The space of a word. The kernel's and the tasks' spaces are not looked at yet.
-fn space_of(word: SpaceWord) -> Option<Space>
+/// Why a command has no place.
+#[derive(Clone, Copy, Debug, PartialEq, Eq)]
+pub(crate) enum NoPlace {
+    /// The kernel is needed, which is not looked for yet.
+    NotYet,
+}
+
+fn space_of(word: SpaceWord) -> Result<Space, NoPlace>
     ensures { result ≡ space_of word }
 {
     match word {
-        SpaceWord::Phys => Some(Space::Phys),
-        SpaceWord::Root { root, levels } => Some(Space::paged(root, levels)),
-        SpaceWord::Kernel | SpaceWord::Task(_) => None,
+        SpaceWord::Phys => Ok(Space::Phys),
+        SpaceWord::Root { root, levels } => Ok(Space::paged(root, levels)),
+        SpaceWord::Kernel | SpaceWord::Task(_) => Err(NoPlace::NotYet),
     }
 }
 
-/// The place of an address in a space. Symbols are not looked up yet.
-pub(crate) fn place_of(space: SpaceWord, at: &AddrWord) -> Option<Place>
-    ensures { result ≡ place_of space at.now }
+fn address_of(word: &AddrWord) -> Result<u64, NoPlace>
+    ensures { result ≡ address_of word.now }
 {
-    match at {
-        AddrWord::Number(at) => Some(Place {
-            space: space_of(space)?,
-            at: *at,
-        }),
-        AddrWord::Symbol(_) => None,
+    match word {
+        AddrWord::Number(at) => Ok(*at),
+        AddrWord::Symbol(_) => Err(NoPlace::NotYet),
+    }
+}
+
+/// The place of so many bytes from an address of a space on, or why there is none. It looks at no evidence yet, since
+/// whatever needs the kernel is refused.
+pub(crate) fn place_of(space: SpaceWord, at: &AddrWord, len: u64) -> Result<Place, NoPlace>
+    ensures place { result ≡ at_address (space_of space) (address_of at.now) }
+    ensures range { IfOk result (λ place. EndsInRange at.now len → place.at + len ≤ 2 ^ 64) }
+{
+    Ok(Place {
+        space: space_of(space)?,
+        at: address_of(at)?,
+    })
+}
+
+/// The error line of a command that has no place.
+pub(crate) fn refusal_line(refusal: NoPlace) -> &'static [u8]
+    ensures { result.now ≡ refusal_text refusal }
+{
+    match refusal {
+        NoPlace::NotYet => b"error: unknown command\n",
     }
 }

@@ -1,18 +1,17 @@
 //! The command that prints memory. It reads a piece at a time and writes the rows of each.
-ghost use Rattle.std.specs.Prelude.{◌≡◌, ◌+◌, ◌^◌, ◌<◌, ◌≤◌, [], ◌++◌, None, Some, map, length, replicate, vec_len, vec_capacity, IsErr, IsErrOf, IfSome, OnOk};
+ghost use Rattle.std.specs.Prelude.{◌≡◌, ◌+◌, ◌^◌, ◌<◌, ◌≤◌, [], ◌++◌, None, Some, map, length, replicate, vec_len, vec_capacity, IsErr, IfSome, OnOk};
 ghost use Rattle.layer_base.specs.AddressSpace.{bytes_from};
 ghost use Rattle.layer_base.specs.Counts.{HasCause};
-ghost use Rattle.layer_base.specs.Known.{Writes};
 ghost use Rattle.layer_base.specs.View.{physical};
 ghost use Rattle.space_memory.specs.InSpace.{in_space};
 ghost use Rattle.space_memory.specs.State.{IsSameMemory};
-ghost use Rattle.hex_text.specs.DumpRow.{dump_text};
+ghost use Rattle.space_memory.specs.Writer.{WritesOver};
 ghost use Rattle.session.specs.Command.{read_text};
 ghost use Rattle.session.specs.Read.{AddsCells, IsCountWithin};
 ghost use Rattle.session.specs.declared.read.TheConstants.{PIECE};
 
 use crate::place::Place;
-use crate::status::CommandFault;
+use crate::status::PluginFault;
 use hex_text::append_rows;
 use layer_base::{DeviceFailed, Layer, Run, Sink, Steps, write_whole};
 use space_memory::Memory;
@@ -127,15 +126,11 @@ impl Page {
         len: usize,
         out: &mut O,
         steps: &mut Steps<L>,
-    ) -> Result<(), CommandFault>
+    ) -> Result<(), PluginFault>
         requires piece { len ≤ PIECE }
         requires addresses { place.at + len ≤ 2 ^ 64 }
-        ensures text { IfSome memory.old.view (λ view.
-            Writes (O.written out.old) (O.written out.new) result (read_text (physical view) len place)) }
-        ensures memory { IsSameMemory memory.old memory.new }
-        ensures image { HasCause memory.old.faults memory.new.faults (IsErrOf result CommandFault.Image) }
-        ensures out { HasCause (O.faults out.old) (O.faults out.new) (IsErrOf result CommandFault.Out) }
-        ensures dump { IsErrOf result CommandFault.Dump → ⊥ }
+        ensures writes { WritesOver O.written O.faults out.old out.new memory.old memory.new PluginFault.Device PluginFault.Out result
+            (λ memory. read_text memory len place) }
     {
         self.bytes.resize(len, 0)?;
         self.cells.clear();
@@ -156,14 +151,10 @@ pub(crate) fn write_read<Y: Layer, O: Sink, L: Ledger>(
     len: u64,
     out: &mut O,
     steps: &mut Steps<L>,
-) -> Result<(), CommandFault>
+) -> Result<(), PluginFault>
     requires { place.at + len ≤ 2 ^ 64 }
-    ensures text { IfSome memory.old.view (λ view.
-        Writes (O.written out.old) (O.written out.new) result (read_text (physical view) len place)) }
-    ensures memory { IsSameMemory memory.old memory.new }
-    ensures image { HasCause memory.old.faults memory.new.faults (IsErrOf result CommandFault.Image) }
-    ensures out { HasCause (O.faults out.old) (O.faults out.new) (IsErrOf result CommandFault.Out) }
-    ensures dump { IsErrOf result CommandFault.Dump → ⊥ }
+    ensures writes { WritesOver O.written O.faults out.old out.new memory.old memory.new PluginFault.Device PluginFault.Out result
+        (λ memory. read_text memory len place) }
 {
     let mut done = 0;
     while done < len {

@@ -15,12 +15,12 @@ ghost use Rattle.session.specs.Script.{script_run};
 ghost use Rattle.session.specs.Turn.{turn_part, turn_line, turn_flow, rest_part};
 
 use crate::Status;
-use crate::command::{Flow, run_line, write_text};
+use crate::command::{Flow, run_line};
 use crate::line_buffer::LineBuffer;
 use crate::read::Page;
-use crate::status::{CommandFault, status_after};
+use crate::status::{CommandFault, status_after, status_after_line};
 use crate::symbol_file::SymbolFile;
-use layer_base::{Failed, Layer, Sink, Source, Steps};
+use layer_base::{Failed, Layer, Sink, Source, Steps, write_whole};
 use space_memory::Memory;
 use std::alloc::Global;
 use std::sync::ledger::Ledger;
@@ -144,6 +144,6 @@ pub(crate) fn run_script<Y: Layer, S: Source, O: Sink, D: Sink, L: Ledger>(
             Status::Ok,
             run_rest(alloc, memory, file, page, &line, out, dump, steps),
         ),
-        Ok(Some(_)) => status_after(Status::ScriptTooLong, write_text(out, b"script too long\n")),
+        Ok(Some(_)) => status_after_line(Status::ScriptTooLong, write_whole(out, b"script too long\n")),
     }
 }

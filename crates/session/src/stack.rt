@@ -4,10 +4,8 @@ ghost use Rattle.layer_base.specs.Counts.{HasCause};
 ghost use Rattle.layer_base.specs.Known.{Writes};
 ghost use Rattle.session.specs.Stack.{stack_of, KeepsOrAttaches, TriesAs, format_word, rule_word, refusal_text};
 
-use crate::command::write_text;
-use crate::status::CommandFault;
 use hex_text::append_address;
-use layer_base::{Kind, Layer, Rule, Sink, Why};
+use layer_base::{Kind, Layer, Rule, Sink, SinkFault, Why, write_whole};
 use std::alloc::{AllocError, Global};
 
 /// A container whose header breaks a rule of its format.
@@ -96,13 +94,13 @@ pub(crate) fn write_refusal<O: Sink>(
     alloc: Global,
     refusal: Refusal,
     out: &mut O,
-) -> Result<(), CommandFault>
+) -> Result<(), SinkFault>
     ensures text { Writes (O.written out.old) (O.written out.new) result (refusal_text refusal) }
-    ensures out { HasCause (O.faults out.old) (O.faults out.new) (IsErrOf result CommandFault.Out) }
-    ensures image { IsErrOf result CommandFault.Image → ⊥ }
-    ensures dump { IsErrOf result CommandFault.Dump → ⊥ }
+    ensures cause { HasCause (O.faults out.old) (O.faults out.new) (IsErrOf result SinkFault.Failed) }
 {
     let mut text = Vec::new(alloc);
-    append_refusal(&mut text, refusal)?;
-    write_text(out, &text)
+    match append_refusal(&mut text, refusal) {
+        Ok(()) => write_whole(out, &text),
+        Err(_) => Err(SinkFault::Memory),
+    }
 }

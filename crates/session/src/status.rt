@@ -1,7 +1,7 @@
 //! How a run ends.
 ghost use Rattle.std.specs.Prelude.{◌≡◌};
-ghost use Rattle.session.specs.declared.status.CommandFault.TheVariants.{Image, Memory};
-ghost use Rattle.session.specs.Status.{fault_of_sink, status_of_fault, status_after, number_of_status};
+ghost use Rattle.session.specs.declared.status.PluginFault.TheVariants.{Device, Memory};
+ghost use Rattle.session.specs.Status.{fault_of_sink, fault_of_plugin, plugin_fault_of_sink, status_of_fault, status_after, status_after_line, number_of_status};
 
 use layer_base::{DeviceFailed, SinkFault};
 use std::alloc::AllocError;
@@ -76,7 +76,7 @@ impl CommandFault {
     }
 }
 
-/// The status of a run whose last write came to this.
+/// The status of a run whose last line came to this.
 pub(crate) fn status_after(done: Status, written: Result<(), CommandFault>) -> Status
     ensures { result ≡ status_after done written }
 {
@@ -86,19 +86,13 @@ pub(crate) fn status_after(done: Status, written: Result<(), CommandFault>) -> S
     }
 }
 
-impl From<DeviceFailed> for CommandFault {
-    ghost from_gives = { λ _ fault. fault ≡ Image };
-
-    fn from(_: DeviceFailed) -> Self {
-        CommandFault::Image
-    }
-}
-
-impl From<AllocError> for CommandFault {
-    ghost from_gives = { λ _ fault. fault ≡ Memory };
-
-    fn from(_: AllocError) -> Self {
-        CommandFault::Memory
+/// The status of a run that ends with a line of its own, the writing of which came to this.
+pub(crate) fn status_after_line(done: Status, written: Result<(), SinkFault>) -> Status
+    ensures { result ≡ status_after_line done written }
+{
+    match written {
+        Ok(()) => done,
+        Err(fault) => CommandFault::from(fault).status(),
     }
 }
 
@@ -109,6 +103,53 @@ impl From<SinkFault> for CommandFault {
         match fault {
             SinkFault::Failed => CommandFault::Out,
             SinkFault::Memory => CommandFault::Memory,
+        }
+    }
+}
+
+impl From<PluginFault> for CommandFault {
+    ghost from_gives = { λ plugin fault. fault ≡ fault_of_plugin plugin };
+
+    fn from(fault: PluginFault) -> Self {
+        match fault {
+            PluginFault::Device => CommandFault::Image,
+            PluginFault::Out => CommandFault::Out,
+            PluginFault::Memory => CommandFault::Memory,
+        }
+    }
+}
+
+/// Why a writer was cut short that reads a memory and prints.
+#[derive(Clone, Copy, Debug, PartialEq, Eq)]
+pub(crate) enum PluginFault {
+    Device,
+    Out,
+    Memory,
+}
+
+impl From<DeviceFailed> for PluginFault {
+    ghost from_gives = { λ _ fault. fault ≡ Device };
+
+    fn from(_: DeviceFailed) -> Self {
+        PluginFault::Device
+    }
+}
+
+impl From<AllocError> for PluginFault {
+    ghost from_gives = { λ _ fault. fault ≡ Memory };
+
+    fn from(_: AllocError) -> Self {
+        PluginFault::Memory
+    }
+}
+
+impl From<SinkFault> for PluginFault {
+    ghost from_gives = { λ sink fault. fault ≡ plugin_fault_of_sink sink };
+
+    fn from(fault: SinkFault) -> Self {
+        match fault {
+            SinkFault::Failed => PluginFault::Out,
+            SinkFault::Memory => PluginFault::Memory,
         }
     }
 }

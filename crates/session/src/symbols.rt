@@ -11,10 +11,9 @@ ghost use Rattle.session.specs.SymbolFile.{EndsRefused, TakesPiece, symbols_take
 ghost use Rattle.session.specs.declared.symbols.SymbolsFault.TheVariants as faults;
 
 use crate::Status;
-use crate::command::write_text;
-use crate::status::{CommandFault, status_after};
+use crate::status::status_after_line;
 use isf_reader::IsfRefusal;
-use layer_base::{Failed, Sink, Source};
+use layer_base::{Failed, Sink, SinkFault, Source, write_whole};
 use std::alloc::{AllocError, Global};
 use symbol_texts::symbols_refusal_text;
 
@@ -106,14 +105,14 @@ fn write_refusal<O: Sink>(
     alloc: Global,
     refusal: &IsfRefusal,
     out: &mut O,
-) -> Result<(), CommandFault>
+) -> Result<(), SinkFault>
     ensures text { Writes (O.written out.old) (O.written out.new) result (symbols_refusal_text refusal.now) }
-    ensures out { HasCause (O.faults out.old) (O.faults out.new) (IsErrOf result CommandFault.Out) }
-    ensures image { IsErrOf result CommandFault.Image → ⊥ }
-    ensures dump { IsErrOf result CommandFault.Dump → ⊥ }
+    ensures cause { HasCause (O.faults out.old) (O.faults out.new) (IsErrOf result SinkFault.Failed) }
 {
-    let line = symbols_refusal_text(alloc, refusal)?;
-    write_text(out, &line)
+    match symbols_refusal_text(alloc, refusal) {
+        Ok(line) => write_whole(out, &line),
+        Err(_) => Err(SinkFault::Memory),
+    }
 }
 
 /// Ends a run whose symbol file is refused, or for which memory ran out.
@@ -128,5 +127,5 @@ pub(crate) fn refuse_symbols<O: Sink>(alloc: Global, refusal: IsfRefusal, out: &
     if matches!(refusal, IsfRefusal::Memory) {
         return Status::Memory;
     }
-    status_after(Status::SymbolsRefused, write_refusal(alloc, &refusal, out))
+    status_after_line(Status::SymbolsRefused, write_refusal(alloc, &refusal, out))
 }

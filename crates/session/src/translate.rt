@@ -1,16 +1,12 @@
 //! The command that tells where an address is in physical memory.
-ghost use Rattle.std.specs.Prelude.{◌≡◌, ◌++◌, IsErrOf, IfOk, IfSome, OnOk};
-ghost use Rattle.layer_base.specs.Counts.{HasCause};
-ghost use Rattle.layer_base.specs.Known.{Writes};
-ghost use Rattle.layer_base.specs.View.{physical};
-ghost use Rattle.space_memory.specs.State.{IsSameMemory};
+ghost use Rattle.std.specs.Prelude.{◌≡◌, ◌++◌, IfOk, OnOk};
+ghost use Rattle.space_memory.specs.Writer.{WritesOver};
 ghost use Rattle.session.specs.Command.{physical_cell, translation_row, translate_text};
 
-use crate::command::write_text;
 use crate::place::Place;
-use crate::status::CommandFault;
+use crate::status::PluginFault;
 use hex_text::append_address;
-use layer_base::{Layer, Sink, Steps};
+use layer_base::{Layer, Sink, Steps, write_whole};
 use space_memory::Memory;
 use std::alloc::{AllocError, Global};
 use std::sync::ledger::Ledger;
@@ -43,15 +39,12 @@ pub(crate) fn write_translation<Y: Layer, O: Sink, L: Ledger>(
     place: Place,
     out: &mut O,
     steps: &mut Steps<L>,
-) -> Result<(), CommandFault>
-    ensures text { IfSome memory.old.view (λ view.
-        Writes (O.written out.old) (O.written out.new) result (translate_text (physical view) place)) }
-    ensures memory { IsSameMemory memory.old memory.new }
-    ensures image { HasCause memory.old.faults memory.new.faults (IsErrOf result CommandFault.Image) }
-    ensures out { HasCause (O.faults out.old) (O.faults out.new) (IsErrOf result CommandFault.Out) }
-    ensures dump { IsErrOf result CommandFault.Dump → ⊥ }
+) -> Result<(), PluginFault>
+    ensures writes { WritesOver O.written O.faults out.old out.new memory.old memory.new PluginFault.Device PluginFault.Out result
+        (λ memory. translate_text memory place) }
 {
     let to = memory.translate(place.space, place.at, steps)?;
     let row = row_of(alloc, place.at, to)?;
-    write_text(out, &row)
+    write_whole(out, &row)?;
+    Ok(())
 }

@@ -4,3 +4,4 @@ pub mod Memories
 pub mod Reading
 pub mod Spaces
 pub mod Words
+pub mod Writers

@@ -3,3 +3,4 @@ pub mod Hole
 pub mod InSpace
 pub mod State
 pub mod Through
+pub mod Writer

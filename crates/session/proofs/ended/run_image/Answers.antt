@@ -4,7 +4,7 @@ use Rattle.session.specs.Line.{line_said}
 use Rattle.session.specs.Ran.{RanOver}
 use Rattle.session.specs.Run.{image_refused, stack_run, evidence_of}
 use Rattle.session.specs.Stack.{TriesAs, stack_of}
-use Rattle.session.specs.Status.{status_after}
+use Rattle.session.specs.Status.{status_after_line}
 use Rattle.session.specs.declared.status.Status.TheVariants.{ImageRefused, ImageFault, Memory}
 use Rattle.session.proofs.Refusals.{line-ended, none-ran}
 use Rattle.session.proofs.Attached.{ran-attached}
@@ -28,8 +28,8 @@ returns-in-Err-Refused-clause-ran g c =
     let formats = c.args.formats.now in
     let refusal = c.in-Err-Refused.refusal in
     let stack : IfSome (g.Y.Layer.view c.args.image) (λ before. stack_of formats before ≡ Err refusal) = rw c.in-Err-Refused.field-0-is at c.in-Err-Refused.ensures.stack in
-    rw c.status_after.ensures (WhereTold-image (g.Y.Layer.view c.args.image) (g.J.Source.left c.args.symbols.now) (g.S.Source.left c.args.script.now) (λ before. stack_of formats before ≡ Err refusal)
-    (λ symbols left before j s. RanOver (line_said (evidence_of formats before j)) (stack_run (stack_of formats before) j s) s left (g.O.Sink.written c.args.out.now) (g.O.Sink.written c.write_refusal-refused.new.out) (g.D.Sink.written c.args.dump.now) (g.D.Sink.written c.args.dump.now) (status_after ImageRefused c.write_refusal-refused.result))
+    rw c.status_after_line.ensures (WhereTold-image (g.Y.Layer.view c.args.image) (g.J.Source.left c.args.symbols.now) (g.S.Source.left c.args.script.now) (λ before. stack_of formats before ≡ Err refusal)
+    (λ symbols left before j s. RanOver (line_said (evidence_of formats before j)) (stack_run (stack_of formats before) j s) s left (g.O.Sink.written c.args.out.now) (g.O.Sink.written c.write_refusal-refused.new.out) (g.D.Sink.written c.args.dump.now) (g.D.Sink.written c.args.dump.now) (status_after_line ImageRefused c.write_refusal-refused.result))
     stack (λ before j s is. rw is (line-ended _ (image_refused refusal) refl refl s _ _ _ c.write_refusal-refused.result c.write_refusal-refused.ensures.text)))
 
 pub returns-in-Ok-clause-ran : goal.returns-in-Ok-clause-ran

@@ -6,11 +6,13 @@ use Rattle.session.specs.Evidence.{evidence_in}
 use Rattle.std.specs.Io.KnownBytes.{Appends, Consumes, IsAtEnd}
 use Rattle.session.specs.Line.{line_said, is_quit}
 use Rattle.session.specs.Said.{text_part, dump_part}
+use Rattle.session.specs.Status.{line_result}
 use Rattle.session.specs.Turn.{turn_part, rest_part}
 use Rattle.session.proofs.Ending.{script-failed, turn-failed, script-ended, script-quit, script-too_long}
 use Rattle.session.proofs.LineClips.{line-clips}
 use Rattle.session.proofs.AtMost.{gave_more}
 use Rattle.space_memory.proofs.Memories.{IsSameMemory-trans}
+use Rattle.session.proofs.RunLines.{Writes-line}
 use Rattle.session.proofs.Told.{IfSome-three}
 use Rattle.session.proofs.Underway.{Underway-next}
 use Rattle.session.proofs.script.run_script.Goals as goal
@@ -80,9 +82,9 @@ returns-in-Ok-Some-take_byte-clause-ran g c =
     let byte = c.in-Ok-Some-take_byte.field-0-0 in
     let taken : Consumes (g.S.Source.left c.loop.script) (g.S.Source.left c.take_byte-2.new.script) (byte ∷ []) = rw c.in-Ok-Some-take_byte.field-0-is at c.in-Ok-Some-take_byte.ensures.taken in
     let most : c.loop.counter ≡ 16777216 = omega arith in
-    rw c.status_after-in-Ok-Some-take_byte.ensures (IfSome_then c.args.memory.now.view c.loop.invariant.underway (λ view told.
+    rw c.status_after_line.ensures (IfSome_then c.args.memory.now.view c.loop.invariant.underway (λ view told.
     IfSome_then (g.S.Source.left c.args.script.now) told (λ bytes underway.
-    script-too_long (line_said (evidence_in view c.args.file.now.table.now)) is_quit (line-clips (evidence_in view c.args.file.now.table.now)) bytes _ _ _ _ _ _ c.loop.line c.loop.counter underway byte (g.O.Sink.written c.write_text.new.out) c.write_text.result most taken c.write_text.ensures.text)))
+    script-too_long (line_said (evidence_in view c.args.file.now.table.now)) is_quit (line-clips (evidence_in view c.args.file.now.table.now)) bytes _ _ _ _ _ _ c.loop.line c.loop.counter underway byte (g.O.Sink.written c.write_whole.new.out) (line_result c.write_whole.result) most taken (Writes-line _ _ c.write_whole.result _ c.write_whole.ensures.bytes))))
 
 pub returns-in-Ok-Quit-clause-ran : goal.returns-in-Ok-Quit-clause-ran
 returns-in-Ok-Quit-clause-ran g c =
