@@ -13,6 +13,3 @@ pub use members::{member, member_named};
 pub use path::{PathRefusal, resolve};
 pub use place::Place;
 pub use size::size_of;
-
-#[cfg(test)]
-mod tests;
