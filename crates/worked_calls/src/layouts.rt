@@ -1,34 +1,40 @@
-//! Sizes of types, and places of their members.
-use crate::tables::{KINDS, PROBE, table_of};
-use anyhow::Result;
+//! Sizes of types, and places of their members and elements.
+use crate::tables::{ARRAYS, KINDS, PROBE, table_of};
+use anyhow::{Context, Result};
 use isf_reader::{Table, TypeRef};
 use layer_base::Name;
 use sqlite_items::Boxed;
 use std::alloc::{AllocError, Global};
-use std::rt::Runtime;
-use type_layout::{PathRefusal, Place, TypeFault, member, member_named, resolve, size_of};
+use type_layout::{PathRefusal, Place, TypeFault, element, member, member_named, resolve, size_of};
 
 fn name_of(alloc: Global, text: &str) -> Result<Name, AllocError> {
     Ok(Name::from(Vec::from_slice(alloc, text.as_bytes())?))
 }
 
 // Prints where a call leads, and the size of what stands there.
-fn print_place<R: Runtime<A = Global>>(
+fn print_place<R: Print + Alloc<A = Global>>(
     rt: &R,
     table: &Table,
     call: &str,
     place: Result<Place<'_>, TypeFault>,
 ) -> Result<()> {
-    match place.map(|place| (place.offset, size_of(table, place.of))) {
-        Ok((offset, Ok(size))) => println!(rt; "{call}: offset {offset}, size {size}")?,
-        Ok((offset, Err(fault))) => println!(rt; "{call}: offset {offset}, {fault:?}")?,
-        Err(fault) => println!(rt; "{call}: {fault:?}")?,
+    let place = match place {
+        Ok(place) => place,
+        Err(fault) => {
+            println!(rt; "{call}: {fault:?}")?;
+            return Ok(());
+        }
+    };
+    let offset = place.offset;
+    match size_of(table, place.of) {
+        Ok(size) => println!(rt; "{call}: offset {offset}, size {size}")?,
+        Err(fault) => println!(rt; "{call}: offset {offset}, {fault:?}")?,
     }
     Ok(())
 }
 
 // Prints members of the user type of a name.
-fn print_members<R: Runtime<A = Global>>(
+fn print_members<R: Print + Alloc<A = Global>>(
     rt: &R,
     table: &Table,
     user: &str,
@@ -50,8 +56,25 @@ fn print_members<R: Runtime<A = Global>>(
     Ok(())
 }
 
+// Prints elements of a field.
+fn print_elements<R: Print + Alloc<A = Global>>(
+    rt: &R,
+    table: &Table,
+    user: &str,
+    field: &str,
+    indices: &[u64],
+) -> Result<()> {
+    let array = member_named(table, user.as_bytes(), field.as_bytes());
+    let array = array.ok().context("a field is missing")?;
+    for index in indices {
+        let call = format!(in rt.alloc(); "element {user}.{field}[{index}]")?;
+        print_place(rt, table, call.as_str(), element(table, array.of, *index))?;
+    }
+    Ok(())
+}
+
 // Prints where a path leads.
-fn print_path<R: Runtime<A = Global>>(
+fn print_path<R: Print + Alloc<A = Global>>(
     rt: &R,
     table: &Table,
     call: &str,
@@ -65,7 +88,7 @@ fn print_path<R: Runtime<A = Global>>(
 }
 
 // Prints where two paths lead.
-fn print_paths<R: Runtime<A = Global>>(rt: &R, table: &Table) -> Result<()> {
+fn print_paths<R: Print + Alloc<A = Global>>(rt: &R, table: &Table) -> Result<()> {
     let kinds = TypeRef::Struct(name_of(rt.alloc(), "kinds")?);
     let path = [name_of(rt.alloc(), "a_second")?, name_of(rt.alloc(), "y")?];
     let place = resolve(table, &kinds, &path);
@@ -80,7 +103,7 @@ fn print_paths<R: Runtime<A = Global>>(rt: &R, table: &Table) -> Result<()> {
 }
 
 // Prints the size of a type.
-fn print_size<R: Runtime<A = Global>>(
+fn print_size<R: Print + Alloc<A = Global>>(
     rt: &R,
     table: &Table,
     type_name: &str,
@@ -94,7 +117,7 @@ fn print_size<R: Runtime<A = Global>>(
 }
 
 // Prints the size of a class and of a pointer to it, which has no members.
-fn print_pointer<R: Runtime<A = Global>>(rt: &R, table: &Table) -> Result<()> {
+fn print_pointer<R: Print + Alloc<A = Global>>(rt: &R, table: &Table) -> Result<()> {
     let probe = TypeRef::Class(name_of(rt.alloc(), "probe")?);
     print_size(rt, table, "class probe", &probe)?;
     let pointer = TypeRef::Pointer(Boxed::new(rt.alloc(), probe)?);
@@ -103,8 +126,20 @@ fn print_pointer<R: Runtime<A = Global>>(rt: &R, table: &Table) -> Result<()> {
     print_place(rt, table, "member a of pointer to class probe", place)
 }
 
-/// Prints sizes and places in two symbol files.
-pub(crate) fn print_layouts<R: Runtime<A = Global>>(rt: &R) -> Result<()> {
+// Prints elements of arrays, first and last and past their ends.
+fn print_arrays<R: Print + Alloc<A = Global>>(rt: &R, kinds: &Table) -> Result<()> {
+    print_elements(rt, kinds, "kinds", "text", &[0, 15, 16])?;
+    print_elements(rt, kinds, "kinds", "most", &[153092022])?;
+    print_elements(rt, kinds, "kinds", "more", &[2147483647])?;
+    print_elements(rt, kinds, "kinds", "own", &[0])?;
+    let arrays = table_of(rt.alloc(), ARRAYS)?;
+    print_elements(rt, &arrays, "arrays", "gone", &[1, 2])?;
+    print_elements(rt, &arrays, "arrays", "great", &[2, 3])?;
+    print_elements(rt, &arrays, "arrays", "over", &[0])
+}
+
+/// Prints sizes and places in small symbol files.
+pub(crate) fn print_layouts<R: Print + Alloc<A = Global>>(rt: &R) -> Result<()> {
     let probe = table_of(rt.alloc(), PROBE)?;
     print_members(
         rt,
@@ -121,5 +156,6 @@ pub(crate) fn print_layouts<R: Runtime<A = Global>>(rt: &R) -> Result<()> {
     )?;
     print_members(rt, &kinds, "nothing", &["x"])?;
     print_paths(rt, &kinds)?;
+    print_arrays(rt, &kinds)?;
     print_pointer(rt, &probe)
 }

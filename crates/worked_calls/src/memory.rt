@@ -7,7 +7,6 @@ use layer_base::{Levels, MemDevice, Run, Space, Steps};
 use space_memory::{Got, Memory};
 use std::alloc::{AllocError, Global};
 use std::marker::Brand;
-use std::rt::Runtime;
 use std::sync::ledger::{Blank, Ledger};
 
 /// The spaces of a file in memory.
@@ -48,7 +47,7 @@ fn memory(alloc: Global, cut: usize) -> Result<FileMemory> {
 }
 
 // Prints the four bytes from an address on.
-fn print_read<R: Runtime<A = Global>, L: Ledger>(
+fn print_read<R: Print + Alloc<A = Global>, L: Ledger>(
     rt: &R,
     memory: &mut FileMemory,
     space: Space,
@@ -67,7 +66,7 @@ fn print_read<R: Runtime<A = Global>, L: Ledger>(
 }
 
 // Prints the number in the eight bytes from an address on.
-fn print_word<R: Runtime<A = Global>, L: Ledger>(
+fn print_word<R: Print + Alloc<A = Global>, L: Ledger>(
     rt: &R,
     memory: &mut FileMemory,
     space: Space,
@@ -85,7 +84,7 @@ fn print_word<R: Runtime<A = Global>, L: Ledger>(
 }
 
 // Prints how many bytes the run at an address has, or how far it is a hole.
-fn print_run<R: Runtime<A = Global>, L: Ledger>(
+fn print_run<R: Print + Alloc<A = Global>, L: Ledger>(
     rt: &R,
     memory: &mut FileMemory,
     space: Space,
@@ -101,7 +100,11 @@ fn print_run<R: Runtime<A = Global>, L: Ledger>(
 }
 
 // Prints the calls on a memory whose device gives so many bytes a call.
-fn print_calls<R: Runtime<A = Global>, L: Ledger>(rt: &R, cut: usize, blank: Blank) -> Result<()>
+fn print_calls<R: Print + Alloc<A = Global>, L: Ledger>(
+    rt: &R,
+    cut: usize,
+    blank: Blank,
+) -> Result<()>
     requires name { blank.name ≡ L.name }
     requires parts { blank.parts ≡ L.parts }
     requires some { 0 < L.parts }
@@ -120,12 +123,12 @@ fn print_calls<R: Runtime<A = Global>, L: Ledger>(rt: &R, cut: usize, blank: Bla
     Ok(())
 }
 
-fn print_cut<R: Runtime<A = Global>>(rt: &R, cut: usize) -> Result<()> {
+fn print_cut<R: Print + Alloc<A = Global>>(rt: &R, cut: usize) -> Result<()> {
     print_calls::<R, Brand>(rt, cut, Blank::new(1))
 }
 
 /// Prints the calls in each cut.
-pub(crate) fn print_memory<R: Runtime<A = Global>>(rt: &R) -> Result<()> {
+pub(crate) fn print_memory<R: Print + Alloc<A = Global>>(rt: &R) -> Result<()> {
     for cut in [1, 3, 0x10000] {
         print_cut(rt, cut)?;
     }

@@ -2,7 +2,6 @@
 use crate::tables::{SYMBOLS, table_of};
 use anyhow::Result;
 use std::alloc::Global;
-use std::rt::Runtime;
 use symbol_index::Symbols;
 
 const ADDRESSES: [u64; 6] = [
@@ -15,7 +14,11 @@ const ADDRESSES: [u64; 6] = [
 ];
 
 // Prints the symbol at an address.
-fn print_at<R: Runtime<A = Global>>(rt: &R, symbols: &Symbols<'_>, address: u64) -> Result<()> {
+fn print_at<R: Print + Alloc<A = Global>>(
+    rt: &R,
+    symbols: &Symbols<'_>,
+    address: u64,
+) -> Result<()> {
     let Some(entry) = symbols.at_address(address) else {
         println!(rt; "at_address {address:#x}: none")?;
         return Ok(());
@@ -27,7 +30,11 @@ fn print_at<R: Runtime<A = Global>>(rt: &R, symbols: &Symbols<'_>, address: u64)
 }
 
 // Prints the address of a symbol that comes next.
-fn print_next<R: Runtime<A = Global>>(rt: &R, symbols: &Symbols<'_>, address: u64) -> Result<()> {
+fn print_next<R: Print + Alloc<A = Global>>(
+    rt: &R,
+    symbols: &Symbols<'_>,
+    address: u64,
+) -> Result<()> {
     match symbols.next_after(address) {
         Some(next) => println!(rt; "next_after {address:#x}: {next:#x}")?,
         None => println!(rt; "next_after {address:#x}: none")?,
@@ -36,7 +43,7 @@ fn print_next<R: Runtime<A = Global>>(rt: &R, symbols: &Symbols<'_>, address: u6
 }
 
 /// Prints what is at each address and next after it, and then what is in a symbol file without symbols.
-pub(crate) fn print_symbols<R: Runtime<A = Global>>(rt: &R) -> Result<()> {
+pub(crate) fn print_symbols<R: Print + Alloc<A = Global>>(rt: &R) -> Result<()> {
     let table = table_of(rt.alloc(), SYMBOLS)?;
     let symbols = Symbols::of(rt.alloc(), &table)?;
     for address in ADDRESSES {

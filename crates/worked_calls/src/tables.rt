@@ -55,6 +55,24 @@ pub(crate) const KINDS: &str = r#"{"base_types":{
             "subtype":{"kind":"array","count":2,
             "subtype":{"kind":"base","name":"char"}}}}}}}}}"#;
 
+/// Arrays whose elements have no size, nearly 2^63 bytes and 2^63 bytes.
+pub(crate) const ARRAYS: &str = r#"{"base_types":{
+    "char":{"size":1,"signed":true,"kind":"char","endian":"little"}},
+"user_types":{
+    "arrays":{"size":64,"kind":"struct","fields":{
+        "gone":{"offset":0,"type":{"kind":"array","count":2,
+            "subtype":{"kind":"struct","name":"nothing"}}},
+        "great":{"offset":0,"type":{"kind":"array","count":4,
+            "subtype":{"kind":"array","count":153092023,
+            "subtype":{"kind":"array","count":92737,
+            "subtype":{"kind":"array","count":649657,
+            "subtype":{"kind":"base","name":"char"}}}}}},
+        "over":{"offset":0,"type":{"kind":"array","count":1,
+            "subtype":{"kind":"array","count":2147483648,
+            "subtype":{"kind":"array","count":2147483648,
+            "subtype":{"kind":"array","count":2,
+            "subtype":{"kind":"base","name":"char"}}}}}}}}}}"#;
+
 /// The table that a symbol file is.
 pub(crate) fn table_of(alloc: Global, text: &str) -> Result<Table> {
     Table::read(alloc, text.as_bytes())

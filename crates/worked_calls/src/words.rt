@@ -2,7 +2,6 @@
 use anyhow::Result;
 use command_words::parse_line;
 use std::alloc::Global;
-use std::rt::Runtime;
 
 const LINES: [&str; 17] = [
     "banners",
@@ -25,7 +24,7 @@ const LINES: [&str; 17] = [
 ];
 
 /// Prints what each line asks for.
-pub(crate) fn print_commands<R: Runtime<A = Global>>(rt: &R) -> Result<()> {
+pub(crate) fn print_commands<R: Print + Alloc<A = Global>>(rt: &R) -> Result<()> {
     for line in LINES {
         let command = parse_line(rt.alloc(), line.as_bytes());
         println!(rt; "parse_line {line:?}: {command:?}")?;
