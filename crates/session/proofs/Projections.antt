@@ -1,5 +1,5 @@
 -- What a run that ran so far left, part by part.
-use Rattle.std.proofs.Common.{◌≡◌, ◌⊎◌, inl, inr, ℕ, Bool, List, Option, Some, refl, subst}
+use Rattle.std.proofs.Common.{◌≡◌, ◌⊎◌, inl, inr, ℕ, List, Option, Some, refl, subst}
 use Rattle.std.specs.Io.KnownBytes.{Appends, Consumes}
 use Rattle.layer_base.specs.Known.{AppendsPrefix}
 use Rattle.session.specs.Headline.{GavePrefix, HasWholeLines}

@@ -1,5 +1,5 @@
 -- A run that ends before the script is read.
-use Rattle.std.proofs.Common.{◌≡◌, ℕ, true, false, List, [], Option, Some, Result, Ok, Err, refl, sym}
+use Rattle.std.proofs.Common.{◌≡◌, ℕ, true, false, List, [], Option, Some, Result, refl, sym}
 use Rattle.std.proofs.KnownBytes.{Consumes-nil}
 use Rattle.layer_base.specs.AddressSpace.{AddressSpace}
 use Rattle.layer_base.specs.Known.{Writes}
