@@ -11,7 +11,6 @@ ghost use Rattle.session.specs.Line.{line_said, is_quit, flow_of};
 ghost use Rattle.session.specs.Turn.{flow_after};
 
 use crate::error_line::{write_fault, write_refusal, write_unknown};
-use crate::lookup::{layout_text, symbol_text};
 use crate::place::place_of;
 use crate::read::{Page, write_read};
 use crate::status::{CommandFault, PluginFault};
@@ -22,7 +21,7 @@ use layer_base::{Layer, Sink, Steps, write_whole};
 use space_memory::Memory;
 use std::alloc::Global;
 use std::sync::ledger::Ledger;
-use symbol_texts::near_text;
+use symbol_texts::{layout_text, near_text, symbol_text};
 
 /// Whether a script goes on behind a line.
 #[derive(Clone, Copy, Debug, PartialEq, Eq)]
@@ -122,9 +121,12 @@ fn write_command<Y: Layer, O: Sink, L: Ledger>(
             Ok(place) => write_translation(alloc, memory, place, out, steps),
             Err(refusal) => Ok(write_refusal(refusal, out)?),
         },
-        Command::Layout { name } => Ok(write_whole(out, &layout_text(alloc, file.table, name)?)?),
+        Command::Layout { name } => Ok(write_whole(
+            out,
+            &layout_text(alloc, file.table, name.items())?,
+        )?),
         Command::Symbol { name } => {
-            Ok(write_whole(out, &symbol_text(alloc, &file.symbols, name)?)?)
+            Ok(write_whole(out, &symbol_text(alloc, &file.symbols, name.items())?)?)
         }
         Command::Near { number } => {
             Ok(write_whole(out, &near_text(alloc, &file.symbols, *number)?)?)

@@ -226,7 +226,10 @@ fn run_over<Y: Layer, J: Source, S: Source, O: Sink, D: Sink, L: Ledger>(
     ensures causes { FaultsHaveCause (Y.faults image) (Y.faults result.1) (S.faults script.old) (S.faults script.new) (O.faults out.old) (O.faults out.new) (D.faults dump.old) (D.faults dump.new) result.0 }
 {
     if !are_accepted(words) {
-        return (status_after_line(Status::Usage, write_whole(out, USAGE)), image);
+        return (
+            status_after_line(Status::Usage, write_whole(out, USAGE)),
+            image,
+        );
     }
     run_image(alloc, image, formats, symbols, script, out, dump, steps)
 }

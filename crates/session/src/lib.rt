@@ -5,7 +5,6 @@ mod command;
 mod ended;
 mod error_line;
 mod line_buffer;
-mod lookup;
 mod place;
 mod read;
 mod script;

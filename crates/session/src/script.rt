@@ -144,6 +144,9 @@ pub(crate) fn run_script<Y: Layer, S: Source, O: Sink, D: Sink, L: Ledger>(
             Status::Ok,
             run_rest(alloc, memory, file, page, &line, out, dump, steps),
         ),
-        Ok(Some(_)) => status_after_line(Status::ScriptTooLong, write_whole(out, b"script too long\n")),
+        Ok(Some(_)) => status_after_line(
+            Status::ScriptTooLong,
+            write_whole(out, b"script too long\n"),
+        ),
     }
 }

@@ -101,11 +101,7 @@ pub(crate) fn take_symbols<J: Source>(
 }
 
 // Writes the line that says the refusal.
-fn write_refusal<O: Sink>(
-    alloc: Global,
-    refusal: &IsfRefusal,
-    out: &mut O,
-) -> Result<(), SinkFault>
+fn write_refusal<O: Sink>(alloc: Global, refusal: &IsfRefusal, out: &mut O) -> Result<(), SinkFault>
     ensures text { Writes (O.written out.old) (O.written out.new) result (symbols_refusal_text refusal.now) }
     ensures cause { HasCause (O.faults out.old) (O.faults out.new) (IsErrOf result SinkFault.Failed) }
 {
