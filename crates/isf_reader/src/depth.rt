@@ -105,7 +105,7 @@ pub(crate) fn first_too_deep(
 {
     let types = too_deep(alloc, users)?;
     match types.first_key_value() {
-        Some((name, _)) => Ok(Some(Name::from(Vec::from_slice(alloc, name)?))),
+        Some((name, _)) => Ok(Some(Name::of(alloc, name)?)),
         None => Ok(None),
     }
 }

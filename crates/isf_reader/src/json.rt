@@ -1,18 +1,53 @@
-//! Looking into an entry of a symbol file.
-ghost use Rattle.std.specs.Prelude.{◌≡◌, option_map, IfOk};
-ghost use Rattle.serde_json.specs.View.{view};
-ghost use Rattle.isf_reader.specs.Json.{given, count_of, integer_of, count_at, text_at, natural_at, flag_at};
+//! Looking into an entry of a symbol file. Numbers and words are read where they stand; names, lists and types are taken
+//! out of the entry, so that their memory goes on to the table.
+ghost use Rattle.std.specs.Prelude.{◌≡◌, ℕ, List, false, option_map, bytes_eq};
+ghost use Rattle.serde_json.specs.Find.{get, get_member};
+ghost use Rattle.serde_json.specs.View.{view, members_view};
+ghost use Rattle.isf_reader.specs.Json.{given, count_of, integer_of, count_at, text_at, natural_at, flag_at, LeavesOthers};
 
 use layer_base::Name;
-use serde_json::Value;
-use std::alloc::{AllocError, Global};
+use serde_json::{Map, Value};
 
-// What stands at a key: None where the key is missing, or null.
-pub(crate) fn given<'v>(entry: &'v Value, key: &str) -> Option<&'v Value>
-    ensures { option_map (λ v. view v.now) result ≡ given key.now (view entry.now) }
+// Takes out the member at a key.
+pub(crate) fn take(members: &mut Map<String, Value>, key: &str) -> Option<Value>
+    ensures value { option_map view result ≡ get_member key.now (members_view members.old.entries) }
+    ensures others { (other : List ℕ) → bytes_eq other key.now ≡ false
+        → get_member other (members_view members.new.entries) ≡ get_member other (members_view members.old.entries) }
 {
-    let value = entry.get(key)?;
-    if value.is_null() { None } else { Some(value) }
+    members.remove(key)
+}
+
+// Takes out what stands at a key.
+pub(crate) fn taken(entry: &mut Value, key: &str) -> Option<Value>
+    ensures value { option_map view result ≡ get key.now (view entry.old) }
+    ensures others { LeavesOthers key.now (view entry.old) (view entry.new) }
+{
+    match entry.as_object_mut() {
+        Some(members) => take(members, key),
+        None => None,
+    }
+}
+
+// Takes out what stands at a key: None where the key is missing, or null.
+pub(crate) fn given(entry: &mut Value, key: &str) -> Option<Value>
+    ensures value { option_map view result ≡ given key.now (view entry.old) }
+    ensures others { LeavesOthers key.now (view entry.old) (view entry.new) }
+{
+    match taken(entry, key) {
+        Some(Value::Null) => None,
+        value => value,
+    }
+}
+
+// Takes out the text at a key.
+pub(crate) fn name_at(entry: &mut Value, key: &str) -> Option<Name>
+    ensures value { result ≡ text_at key.now (view entry.old) }
+    ensures others { LeavesOthers key.now (view entry.old) (view entry.new) }
+{
+    match taken(entry, key) {
+        Some(Value::String(text)) => Some(Name::from(text.into_bytes())),
+        _ => None,
+    }
 }
 
 // A whole number from 0 to 4,294,967,295.
@@ -55,21 +90,4 @@ pub(crate) fn flag_at(entry: &Value, key: &str) -> Option<bool>
     ensures { result ≡ flag_at key.now (view entry.now) }
 {
     entry.get(key).and_then(Value::as_bool)
-}
-
-// A copy of a text.
-pub(crate) fn name_of(alloc: Global, text: &str) -> Result<Name, AllocError>
-    ensures { IfOk result (λ name. name ≡ text.now) }
-{
-    Ok(Name::from(Vec::from_slice(alloc, text.as_bytes())?))
-}
-
-// A copy of the text at a key.
-pub(crate) fn name_at(alloc: Global, entry: &Value, key: &str) -> Result<Option<Name>, AllocError>
-    ensures { IfOk result (λ name. name ≡ text_at key.now (view entry.now)) }
-{
-    match text_at(entry, key) {
-        Some(text) => Ok(Some(name_of(alloc, text)?)),
-        None => Ok(None),
-    }
 }

@@ -20,8 +20,8 @@ pub(crate) trait Entry: Drop + Sized {
     ghost reads: { List ℕ → Data → Result Self Key };
 
     // Reads the entry of that name, or gives its first key at fault.
-    fn read(alloc: Global, name: &[u8], entry: &Value) -> Result<Result<Self, Key>, AllocError>
-        ensures { IfOk result (λ read. read ≡ reads name.now (view entry.now)) };
+    fn read(alloc: Global, name: &[u8], entry: Value) -> Result<Result<Self, Key>, AllocError>
+        ensures { IfOk result (λ read. read ≡ reads name.now (view entry)) };
 }
 
 // A name that entries stand under, in byte order.
@@ -65,9 +65,9 @@ pub(crate) struct Fault {
 fn entry_of<E: Entry>(
     alloc: Global,
     name: &[u8],
-    entry: &Value,
+    entry: Value,
 ) -> Result<Result<E, Key>, AllocError>
-    ensures { IfOk result (λ read. read ≡ entry_of E.reads name.now (view entry.now)) }
+    ensures { IfOk result (λ read. read ≡ entry_of E.reads name.now (view entry)) }
 {
     if entry.is_object() {
         E::read(alloc, name, entry)
@@ -98,7 +98,7 @@ fn entries_in<K: EntryName, E: Entry>(
 {
     let mut found = BTreeMap::new(alloc);
     for (name, member) in members {
-        let entry = match entry_of::<E>(alloc, name.as_bytes(), &member)? {
+        let entry = match entry_of::<E>(alloc, name.as_bytes(), member)? {
             Ok(entry) => entry,
             Err(key) => {
                 return Ok(Err(Fault {

@@ -20,16 +20,13 @@ const MOST_BYTES: usize = 1 << 27;
 /// name, constants by value and then by name, and anonymous fields nest at most 32 levels deep.
 #[derive(Debug, Drop)]
 pub struct Table {
-    bases: BTreeMap<Vec<u8>, BaseType>,
-    enums: BTreeMap<Vec<u8>, EnumType>,
-    users: BTreeMap<Vec<u8>, UserType>,
-    symbols: BTreeMap<Name, Symbol>,
+    maps: Maps,
 }
 
 impl Model for Table {
     ghost use Rattle.std.specs.Prelude.{ℕ, List, refl};
     ghost use Rattle.std.specs.Coded.{code_by, coded_list, coded×, coded_ℕ};
-    ghost use Rattle.isf_reader.specs.Sections.{named};
+    ghost use Rattle.isf_reader.specs.Maps.{sections_view};
     ghost use Rattle.isf_reader.specs.Table.{Sections, IsTable};
     ghost use Rattle.isf_reader.specs.declared.base_type.BaseType.{BaseType};
     ghost use Rattle.isf_reader.specs.declared.enum_type.EnumType.{EnumType};
@@ -51,19 +48,9 @@ impl Model for Table {
         (λ p. record { bases = p.0; enums = (p.1).0; users = ((p.1).1).0; symbols = ((p.1).1).1 })
         (λ _. refl) };
 
-    ghost view = { λ t. record {
-      bases = named (λ name. name.items) t.bases.entries;
-      enums = named (λ name. name.items) t.enums.entries;
-      users = named (λ name. name.items) t.users.entries;
-      symbols = named (λ name. name) t.symbols.entries;
-    } };
+    ghost view = { λ t. sections_view t.maps };
 
-    ghost invariant = { λ t. IsTable (record {
-      bases = named (λ name. name.items) t.bases.entries;
-      enums = named (λ name. name.items) t.enums.entries;
-      users = named (λ name. name.items) t.users.entries;
-      symbols = named (λ name. name) t.symbols.entries;
-    }) };
+    ghost invariant = { λ t. IsTable (sections_view t.maps) };
 }
 
 // The entry of a name.
@@ -92,18 +79,7 @@ impl Table {
         if let Some(name) = first_too_deep(alloc, &maps.users)? {
             return Err(IsfRefusal::AnonDepth { name });
         }
-        let Maps {
-            bases,
-            enums,
-            users,
-            symbols,
-        } = maps;
-        Ok(Table {
-            bases,
-            enums,
-            users,
-            symbols,
-        })
+        Ok(Table { maps })
     }
 
     /// Returns the base type with a name, or None where no base type has it.
@@ -111,7 +87,7 @@ impl Table {
         ensures value { option_copied result ≡ entry_named name.now self.now.bases }
         ensures kept { IsTable self.now }
     {
-        entry_of(&self.bases, name)
+        entry_of(&self.maps.bases, name)
     }
 
     /// Returns the enum with a name, or None where no enum has it.
@@ -119,7 +95,7 @@ impl Table {
         ensures value { option_copied result ≡ entry_named name.now self.now.enums }
         ensures kept { IsTable self.now }
     {
-        entry_of(&self.enums, name)
+        entry_of(&self.maps.enums, name)
     }
 
     /// Returns the user type with a name, or None where no user type has it.
@@ -127,7 +103,7 @@ impl Table {
         ensures value { option_copied result ≡ entry_named name.now self.now.users }
         ensures kept { IsTable self.now }
     {
-        entry_of(&self.users, name)
+        entry_of(&self.maps.users, name)
     }
 
     /// The symbols, by their names in byte order.
@@ -135,6 +111,6 @@ impl Table {
         ensures value { result.now.entries ≡ self.now.symbols }
         ensures kept { IsTable self.now }
     {
-        &self.symbols
+        &self.maps.symbols
     }
 }

@@ -6,7 +6,7 @@ use Rattle.isf_reader.proofs.depth.first_too_deep.Goals as goal
 pub returns-in-Some : goal.returns-in-Some
 returns-in-Some c =
     let users = named (λ name. name.items) c.args.users.now.entries in
-    ap Some (c.from.ensures ∙ c.in_ok-from_slice-in-Some.ensures.items) ∙ sym (ap (option_map (λ e. e.0.now)) c.in-Some.ensures.first)
+    ap Some c.in_ok-of-in-Some.ensures ∙ sym (ap (option_map (λ e. e.0.now)) c.in-Some.ensures.first)
     ∙ first_name (λ key. key.now) (λ user. user.now) users c.in_ok-types.types.entries c.in_ok-types.ensures
 
 pub returns : goal.returns
