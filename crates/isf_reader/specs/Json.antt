@@ -1,5 +1,5 @@
 -- Looking into an entry of a symbol file.
-use Rattle.std.specs.Prelude.{◌≡◌, ℕ, ◌^◌, ℤ, List, Bool, false, nat_lt, bytes_eq, if◌then◌else◌, Option, Some, None, option_and_then}
+use Rattle.std.specs.Prelude.{ℕ, ◌^◌, ℤ, List, Bool, nat_lt, if◌then◌else◌, Option, Some, None, option_and_then}
 use Rattle.serde_json.specs.Data.{Data, null, boolean, number, string, array, object}
 use Rattle.serde_json.specs.Find.{get, as_bool, as_integer, as_number, as_str, as_u64}
 
@@ -43,7 +43,3 @@ natural_at key d = option_and_then natural_of (get key d)
 
 abbrev pub flag_at : List ℕ → Data → Option Bool
 flag_at key d = option_and_then as_bool (get key d)
-
--- what stands at every other key stays there
-abbrev pub LeavesOthers : List ℕ → Data → Data → Type 0
-LeavesOthers key before now = (other : List ℕ) → bytes_eq other key ≡ false → get other now ≡ get other before

@@ -5,7 +5,7 @@ ghost use Rattle.serde_json.specs.View.{view, members_view};
 ghost use Rattle.isf_reader.specs.Enums.{by_value, constant_at, values_onto, constants_in, constants_of, enum_of};
 
 use crate::Key;
-use crate::json::{count_at, given, integer_of, name_at};
+use crate::json::{count_at, integer_of, taken_given, text_at};
 use crate::section::Entry;
 use layer_base::Name;
 use serde_json::{Map, Value};
@@ -138,10 +138,11 @@ fn enum_of(alloc: Global, mut entry: Value) -> Result<Result<EnumType, Key>, All
     let Some(size) = count_at(&entry, "size") else {
         return Ok(Err(Key::Size));
     };
-    let Some(base) = name_at(&mut entry, "base") else {
+    let Some(base) = text_at(&entry, "base") else {
         return Ok(Err(Key::Base));
     };
-    let Some(constants) = constants_of(alloc, given(&mut entry, "constants"))? else {
+    let base = Name::of(alloc, base.as_bytes())?;
+    let Some(constants) = constants_of(alloc, taken_given(&mut entry, "constants"))? else {
         return Ok(Err(Key::Constants));
     };
     Ok(Ok(EnumType {

@@ -1,12 +1,11 @@
 //! The sections of a symbol file, before it is known how deep anonymous fields nest.
-ghost use Rattle.std.specs.Prelude.{◌≡◌, ◌⊎◌, Some, None, Ok, option_map, IfOk, IfErr, codes};
+ghost use Rattle.std.specs.Prelude.{◌≡◌, ◌⊎◌, ℕ, List, false, Some, None, Ok, option_map, bytes_eq, IfOk, IfErr, codes};
 ghost use Rattle.serde_json.specs.Find.{get_member};
 ghost use Rattle.serde_json.specs.View.{view, members_view};
 ghost use Rattle.isf_reader.specs.Maps.{sections_view};
 ghost use Rattle.isf_reader.specs.Sections.{named, section_of};
 ghost use Rattle.isf_reader.specs.Table.{in_section, sections_of, file_of, tree_of, RefusesAs};
 
-use crate::json::take;
 use crate::section::{Entry, EntryName, Fault, section_of};
 use crate::{BaseType, EnumType, IsfRefusal, Key, Section, Symbol, UserType};
 use layer_base::Name;
@@ -21,6 +20,15 @@ struct Parts {
     enums: Option<Value>,
     users: Option<Value>,
     symbols: Option<Value>,
+}
+
+// Takes out what stands at a key.
+fn take(root: &mut Map<String, Value>, key: &str) -> Option<Value>
+    ensures value { option_map view result ≡ get_member key.now (members_view root.old.entries) }
+    ensures others { (other : List ℕ) → bytes_eq other key.now ≡ false
+        → get_member other (members_view root.new.entries) ≡ get_member other (members_view root.old.entries) }
+{
+    root.remove(key)
 }
 
 // Takes the four sections out of a file.

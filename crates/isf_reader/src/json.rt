@@ -1,37 +1,34 @@
-//! Looking into an entry of a symbol file. Numbers and words are read where they stand; names, lists and types are taken
-//! out of the entry, so that their memory goes on to the table.
-ghost use Rattle.std.specs.Prelude.{◌≡◌, ℕ, List, false, option_map, bytes_eq};
-ghost use Rattle.serde_json.specs.Find.{get, get_member};
-ghost use Rattle.serde_json.specs.View.{view, members_view};
-ghost use Rattle.isf_reader.specs.Json.{given, count_of, integer_of, count_at, text_at, natural_at, flag_at, LeavesOthers};
+//! Looking into an entry of a symbol file. Numbers and words are read where they stand. A name, a list or a type is taken,
+//! so that its memory goes on to the table, and null is left in its place: it is what is read last of an entry.
+ghost use Rattle.std.specs.Prelude.{◌≡◌, option_map};
+ghost use Rattle.serde_json.specs.Find.{get};
+ghost use Rattle.serde_json.specs.View.{view};
+ghost use Rattle.isf_reader.specs.Json.{given, count_of, integer_of, count_at, text_at, natural_at, flag_at};
 
 use layer_base::Name;
-use serde_json::{Map, Value};
+use serde_json::Value;
 
-// Takes out the member at a key.
-pub(crate) fn take(members: &mut Map<String, Value>, key: &str) -> Option<Value>
-    ensures value { option_map view result ≡ get_member key.now (members_view members.old.entries) }
-    ensures others { (other : List ℕ) → bytes_eq other key.now ≡ false
-        → get_member other (members_view members.new.entries) ≡ get_member other (members_view members.old.entries) }
+// What stands at a key: None where the key is missing, or null.
+pub(crate) fn given<'v>(entry: &'v Value, key: &str) -> Option<&'v Value>
+    ensures { option_map (λ v. view v.now) result ≡ given key.now (view entry.now) }
 {
-    members.remove(key)
+    let value = entry.get(key)?;
+    if value.is_null() { None } else { Some(value) }
 }
 
-// Takes out what stands at a key.
+// Takes what stands at a key.
 pub(crate) fn taken(entry: &mut Value, key: &str) -> Option<Value>
-    ensures value { option_map view result ≡ get key.now (view entry.old) }
-    ensures others { LeavesOthers key.now (view entry.old) (view entry.new) }
+    ensures { option_map view result ≡ get key.now (view entry.old) }
 {
-    match entry.as_object_mut() {
-        Some(members) => take(members, key),
+    match entry.get_mut(key) {
+        Some(value) => Some(value.take()),
         None => None,
     }
 }
 
-// Takes out what stands at a key: None where the key is missing, or null.
-pub(crate) fn given(entry: &mut Value, key: &str) -> Option<Value>
-    ensures value { option_map view result ≡ given key.now (view entry.old) }
-    ensures others { LeavesOthers key.now (view entry.old) (view entry.new) }
+// Takes what stands at a key: None where the key is missing, or null.
+pub(crate) fn taken_given(entry: &mut Value, key: &str) -> Option<Value>
+    ensures { option_map view result ≡ given key.now (view entry.old) }
 {
     match taken(entry, key) {
         Some(Value::Null) => None,
@@ -39,10 +36,9 @@ pub(crate) fn given(entry: &mut Value, key: &str) -> Option<Value>
     }
 }
 
-// Takes out the text at a key.
-pub(crate) fn name_at(entry: &mut Value, key: &str) -> Option<Name>
-    ensures value { result ≡ text_at key.now (view entry.old) }
-    ensures others { LeavesOthers key.now (view entry.old) (view entry.new) }
+// Takes the text at a key.
+pub(crate) fn taken_name(entry: &mut Value, key: &str) -> Option<Name>
+    ensures { result ≡ text_at key.now (view entry.old) }
 {
     match taken(entry, key) {
         Some(Value::String(text)) => Some(Name::from(text.into_bytes())),

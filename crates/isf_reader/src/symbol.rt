@@ -3,7 +3,7 @@ ghost use Rattle.std.specs.Prelude.{◌≡◌, option_map, IfOk};
 ghost use Rattle.serde_json.specs.View.{view};
 ghost use Rattle.isf_reader.specs.Symbols.{optional_type, decoded, optional_bytes, symbol_of};
 
-use crate::json::{given, natural_at};
+use crate::json::{given, natural_at, taken_given};
 use crate::section::Entry;
 use crate::type_of::type_of;
 use crate::{Key, TypeRef};
@@ -44,8 +44,8 @@ fn decoded(alloc: Global, text: &str) -> Result<Option<Bytes>, AllocError>
 }
 
 // The data of a symbol; no data where the key is missing or null.
-fn optional_bytes(alloc: Global, value: Option<Value>) -> Result<Option<Option<Bytes>>, AllocError>
-    ensures { IfOk result (λ bytes. bytes ≡ optional_bytes (option_map view value)) }
+fn optional_bytes(alloc: Global, value: Option<&Value>) -> Result<Option<Option<Bytes>>, AllocError>
+    ensures { IfOk result (λ bytes. bytes ≡ optional_bytes (option_map (λ v. view v.now) value.entry)) }
 {
     let Some(value) = value else {
         return Ok(Some(None));
@@ -63,10 +63,11 @@ fn symbol_of(alloc: Global, mut entry: Value) -> Result<Result<Symbol, Key>, All
     let Some(address) = natural_at(&entry, "address") else {
         return Ok(Err(Key::Address));
     };
-    let Some(of) = optional_type(alloc, given(&mut entry, "type"))? else {
+    let constant = optional_bytes(alloc, given(&entry, "constant_data"))?;
+    let Some(of) = optional_type(alloc, taken_given(&mut entry, "type"))? else {
         return Ok(Err(Key::Of));
     };
-    let Some(constant) = optional_bytes(alloc, given(&mut entry, "constant_data"))? else {
+    let Some(constant) = constant else {
         return Ok(Err(Key::ConstantData));
     };
     Ok(Ok(Symbol {

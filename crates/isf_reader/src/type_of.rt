@@ -4,7 +4,7 @@ ghost use Rattle.serde_json.specs.View.{view};
 ghost use Rattle.isf_reader.specs.TypeOf.{shape_of, shape_at, type_of, type_at, array_of, bits_of};
 
 use crate::TypeRef;
-use crate::json::{count_at, name_at, taken, text_at};
+use crate::json::{count_at, taken, taken_name, text_at};
 use serde_json::Value;
 use sqlite_items::Boxed;
 use std::alloc::{AllocError, Global};
@@ -66,11 +66,11 @@ pub(crate) fn type_of(alloc: Global, mut value: Value) -> Result<Option<TypeRef>
         return Ok(None);
     };
     match shape {
-        Shape::Base => Ok(name_at(&mut value, "name").map(TypeRef::Base)),
-        Shape::Struct => Ok(name_at(&mut value, "name").map(TypeRef::Struct)),
-        Shape::Union => Ok(name_at(&mut value, "name").map(TypeRef::Union)),
-        Shape::Class => Ok(name_at(&mut value, "name").map(TypeRef::Class)),
-        Shape::Enum => Ok(name_at(&mut value, "name").map(TypeRef::Enum)),
+        Shape::Base => Ok(taken_name(&mut value, "name").map(TypeRef::Base)),
+        Shape::Struct => Ok(taken_name(&mut value, "name").map(TypeRef::Struct)),
+        Shape::Union => Ok(taken_name(&mut value, "name").map(TypeRef::Union)),
+        Shape::Class => Ok(taken_name(&mut value, "name").map(TypeRef::Class)),
+        Shape::Enum => Ok(taken_name(&mut value, "name").map(TypeRef::Enum)),
         Shape::Pointer => {
             let of = type_at(alloc, &mut value, "subtype")?;
             Ok(boxed(alloc, of)?.map(TypeRef::Pointer))

@@ -3,7 +3,7 @@ ghost use Rattle.std.specs.Prelude.{◌≡◌, [], ◌∷◌, ◌++◌, map, opt
 ghost use Rattle.serde_json.specs.View.{view, members_view};
 ghost use Rattle.isf_reader.specs.UserTypes.{user_kind_of, flag_or_false, placed_of, fields_onto, field_at, fields_in, fields_of, user_of};
 
-use crate::json::{count_at, given, text_at};
+use crate::json::{count_at, given, taken_given, text_at};
 use crate::section::Entry;
 use crate::type_of::type_at;
 use crate::{Key, TypeRef};
@@ -101,8 +101,8 @@ fn user_kind_of(text: &str) -> Option<UserKind>
 }
 
 // True or false; false where the key is missing or null.
-fn flag_or_false(value: Option<Value>) -> Option<bool>
-    ensures { result ≡ flag_or_false (option_map view value) }
+fn flag_or_false(value: Option<&Value>) -> Option<bool>
+    ensures { result ≡ flag_or_false (option_map (λ v. view v.now) value.entry) }
 {
     match value {
         Some(value) => value.as_bool(),
@@ -127,7 +127,7 @@ fn placed_of(
     let Some(offset) = count_at(&member, "offset") else {
         return Ok(None);
     };
-    let anonymous = flag_or_false(given(&mut member, "anonymous"));
+    let anonymous = flag_or_false(given(&member, "anonymous"));
     let Some(of) = type_at(alloc, &mut member, "type")? else {
         return Ok(None);
     };
@@ -206,7 +206,7 @@ fn user_of(alloc: Global, mut entry: Value) -> Result<Result<UserType, Key>, All
     let Some(kind) = text_at(&entry, "kind").and_then(user_kind_of) else {
         return Ok(Err(Key::Kind));
     };
-    let Some(fields) = fields_of(alloc, given(&mut entry, "fields"))? else {
+    let Some(fields) = fields_of(alloc, taken_given(&mut entry, "fields"))? else {
         return Ok(Err(Key::Fields));
     };
     Ok(Ok(UserType { size, kind, fields }))

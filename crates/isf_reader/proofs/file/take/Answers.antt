@@ -3,10 +3,10 @@ use Rattle.serde_json.proofs.Views.{view-lookup}
 use Rattle.serde_json.specs.Find.{get_member}
 use Rattle.serde_json.specs.View.{view, members_view}
 use Rattle.isf_reader.proofs.Taking.{others_stay}
-use Rattle.isf_reader.proofs.json.take.Goals as goal
+use Rattle.isf_reader.proofs.file.take.Goals as goal
 
 pub returns-clause-value : goal.returns-clause-value
-returns-clause-value c = ap (option_map view) c.remove.ensures.value ∙ view-lookup c.args.key.now c.args.members.now.entries
+returns-clause-value c = ap (option_map view) c.remove.ensures.value ∙ view-lookup c.args.key.now c.args.root.now.entries
 
 pub returns-clause-others : goal.returns-clause-others
-returns-clause-others c = λ other apart. ap (λ es. get_member other (members_view es)) c.remove.ensures.entries ∙ others_stay c.args.key.now other apart c.args.members.now.entries
+returns-clause-others c = λ other apart. ap (λ es. get_member other (members_view es)) c.remove.ensures.entries ∙ others_stay c.args.key.now other apart c.args.root.now.entries
