@@ -335,3 +335,20 @@ kept (number n) s h shallow = cc
 kept (string t) s h shallow = cc
 kept (array ds) s h shallow = cc
 kept (object ms) s h shallow = sections_kept (get_member (codes "base_types") ms) (get_member (codes "enums") ms) (get_member (codes "user_types") ms) (get_member (codes "symbols") ms) s h shallow
+
+users_in_order : (b e u y : Option Data) (s : Sections) → sections_of b e u y ≡ Ok s → HasNamesInOrder s.users
+users_in_order b e u y s h =
+    let bases = behind_before (in_section _ (section_of base_of b)) _ s h in
+    let enums = behind_before (in_section _ (section_of (λ name. enum_of) e)) _ s bases.2 in
+    let users = behind_before (in_section _ (section_of (λ name. user_of) u)) _ s enums.2 in
+    let symbols = behind_before (in_section _ (section_of (λ name. symbol_of) y)) _ s users.2 in
+    subst (λ t. HasNamesInOrder t.users) (same_ok _ s symbols.2) (names_of (λ name. user_of) u users.0 (section_before _ (section_of (λ name. user_of) u) users.0 users.1))
+
+-- the user types of a file stand in order, however deep they are
+pub users_kept : (d : Data) (s : Sections) → file_of d ≡ Ok s → HasNamesInOrder s.users
+users_kept null s h = cc
+users_kept (boolean b) s h = cc
+users_kept (number n) s h = cc
+users_kept (string t) s h = cc
+users_kept (array ds) s h = cc
+users_kept (object ms) s h = users_in_order (get_member (codes "base_types") ms) (get_member (codes "enums") ms) (get_member (codes "user_types") ms) (get_member (codes "symbols") ms) s h

@@ -1,5 +1,5 @@
 -- Who nests one level deeper is found among those who nest so deep.
-use Rattle.std.proofs.Common.{◌≡◌, ℕ, zero, suc, List, [], ◌∷◌, Bool, true, false, ◌||◌, cond, Option, Some, None, option_map, filter, find, is_some, refl, sym, ap, ap₂, ◌∙◌, slice_get, add-one, ◌+◌, ◌<◌, length, arith, true≢false}
+use Rattle.std.proofs.Common.{◌≡◌, ℕ, zero, suc, List, [], ◌∷◌, Bool, true, false, ◌||◌, cond, Option, Some, None, option_map, map, filter, find, is_some, refl, sym, ap, ap₂, ◌∙◌, slice_get, add-one, ◌+◌, ◌<◌, length, arith, true≢false}
 use Rattle.std.specs.Cmp.Lexicographic.{slice_cmp, nat_list_cmp_total}
 use Rattle.std.specs.List.{list_any}
 use Rattle.std.specs.Option.{option_map_or, option_and_then}
@@ -7,9 +7,8 @@ use Rattle.std.specs.Ordering.{nat_cmp}
 use Rattle.std.proofs.lemmas.Cmp.{eq_by_cmp_equiv}
 use Rattle.std.proofs.lemmas.Map.Entries.{lookup-filter-values, option_filter}
 use Rattle.std.proofs.lemmas.Map.Keys.{IsDistinct-from_sorted}
-use Rattle.isf_reader.proofs.Named.{first_shown}
+use Rattle.isf_reader.proofs.Named.{filtered_in_order}
 use Rattle.isf_reader.specs.Depth.{entry_named, brought_in, brings, nests, nesting, brings_in, brings_one_of, deeper, deepest, first_too_deep}
-use Rattle.isf_reader.specs.Sections.{shown}
 use Rattle.isf_reader.specs.Table.{HasNamesInOrder}
 use Rattle.isf_reader.specs.declared.user_type.Field.{Field}
 use Rattle.isf_reader.specs.declared.user_type.UserType.{UserType}
@@ -100,13 +99,18 @@ first_of_passing test (a ∷ xs) = go (test a) (first_of_passing test xs)
     go true more = refl
     go false more = more
 
--- the name of the first of the types that nest too deep
-pub first_name : {K E : Type 0} (spelled : K → List ℕ) (value : E → UserType) (users : Users) (es : List (K × E)) → shown spelled value es ≡ nesting users (suc deepest)
-    → option_map (λ e. spelled e.0) (slice_get es 0) ≡ first_too_deep users
-unfolding first_too_deep
-first_name spelled value users es h =
-    sym (first_shown spelled value es) ∙ ap (λ types. option_map (λ e. e.0) (slice_get types 0)) h ∙ sym (ap (option_map (λ e. e.0)) (first_of_passing (λ e. nests users (suc deepest) e.1) users))
+first_listed : {X : Type 0} (listed : X → List ℕ × UserType) (types : List X) → option_map (λ x. (listed x).0) (slice_get types 0) ≡ option_map (λ e. e.0) (slice_get (map listed types) 0)
+first_listed listed [] = refl
+first_listed listed (x ∷ types) = refl
 
-pub none_first : {A : Type 0} (xs : List A) → (0 < length xs → false ≡ true) → slice_get xs 0 ≡ None
-none_first [] h = refl
-none_first (a ∷ xs) h = absurd (true≢false (sym (h (omega arith))))
+-- the name of the first of the types that nest too deep
+pub first_name : {X : Type 0} (listed : X → List ℕ × UserType) (users : Users) (types : List X) (first : Option X) → first ≡ slice_get types 0 → map listed types ≡ nesting users (suc deepest)
+    → option_map (λ x. (listed x).0) first ≡ first_too_deep users
+unfolding first_too_deep
+first_name listed users types first is h =
+    ap (option_map (λ x. (listed x).0)) is ∙ first_listed listed types ∙ ap (λ ts. option_map (λ e. e.0) (slice_get ts 0)) h
+    ∙ sym (ap (option_map (λ e. e.0)) (first_of_passing (λ e. nests users (suc deepest) e.1) users))
+
+-- those that nest so deep stand in the order of all
+pub nesting_in_order : (users : Users) → HasNamesInOrder users → (n : ℕ) → HasNamesInOrder (nesting users n)
+nesting_in_order users sorted n = filtered_in_order (λ e. nests users n e.1) users sorted

@@ -3,7 +3,7 @@ pub mod Depth
 pub mod Entry
 pub mod Enums
 pub mod Json
-pub mod Maps
+pub mod Lists
 pub mod Sections
 pub mod Symbols
 pub mod Table

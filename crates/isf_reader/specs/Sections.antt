@@ -1,9 +1,10 @@
 -- The sections of a symbol file.
-use Rattle.std.specs.Prelude.{ℕ, List, [], map, Option, Some, None, Result, Ok, Err}
+use Rattle.std.specs.Prelude.{ℕ, List, [], Option, Some, None, Result, Ok, Err, Vec}
+use Rattle.std.specs.declared.alloc.Global.{Global}
 use Rattle.std.specs.Cmp.Lexicographic.{slice_cmp}
 use Rattle.std.specs.Ordering.{nat_cmp}
 use Rattle.std.specs.Result.{result_map_both}
-use Rattle.std.specs.BTreeMap.{BTreeMap, insert_entry}
+use Rattle.std.specs.BTreeMap.{insert_entry}
 use Rattle.serde_json.specs.Data.{Data, null, boolean, number, string, array, object, Members, no_members, member}
 use Rattle.isf_reader.specs.Entry.{entry_of}
 use Rattle.isf_reader.specs.declared.refusal.Key.{Key}
@@ -35,14 +36,6 @@ module _ {E : Type 0} (reads : List ℕ → Data → Result E Key) where
   section_of None = Ok []
   section_of (Some d) = section_in d
 
--- entries by their names
-abbrev pub named : {K E : Type 0} → (K → List ℕ) → List (K × E) → List (List ℕ × E)
-named bytes es = map (λ e. (bytes e.0, e.1)) es
-
--- entries by their names, and what their values show
-abbrev pub shown : {K E F : Type 0} → (K → List ℕ) → (E → F) → List (K × E) → List (List ℕ × F)
-shown bytes value es = map (λ e. (bytes e.0, value e.1)) es
-
--- the entries of a map, or its fault
-abbrev pub told : {K E : Type 0} → (K → List ℕ) → Result (BTreeMap K E) Fault → Result (List (List ℕ × E)) (List ℕ × Key)
-told bytes read = result_map_both (λ m. named bytes m.entries) (λ fault. (fault.name, fault.key)) read
+-- the entries that were read, or the fault
+abbrev pub told : {E : Type 0} → Result (Vec (List ℕ × E) Global) Fault → Result (List (List ℕ × E)) (List ℕ × Key)
+told read = result_map_both (λ entries. entries.items) (λ fault. (fault.name, fault.key)) read

@@ -97,8 +97,8 @@ impl Entry for BaseType {
     fn read(
         _alloc: Global,
         name: &[u8],
-        entry: &Value,
+        entry: Value,
     ) -> Result<Result<BaseType, Key>, AllocError> {
-        Ok(base_of(name, entry))
+        Ok(base_of(name, &entry))
     }
 }

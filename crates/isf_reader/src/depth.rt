@@ -1,17 +1,18 @@
 //! How deep anonymous fields nest, found in rounds: at first each user type is there, and a round keeps those that bring in
 //! one that is there. So a round costs no more than the types that are left, and the work does not grow with the number
 //! of ways to a field.
-ghost use Rattle.std.specs.Prelude.{◌≡◌, suc, option_map, is_some, IfOk};
+ghost use Rattle.std.specs.Prelude.{◌≡◌, suc, map, option_map, is_some, IfOk};
+ghost use Rattle.std.specs.Cmp.Lexicographic.{slice_cmp};
 ghost use Rattle.std.specs.List.{list_any};
 ghost use Rattle.std.specs.Option.{option_copied};
+ghost use Rattle.std.specs.Ordering.{nat_cmp};
 ghost use Rattle.isf_reader.specs.Depth.{entry_named, brought_in, brings_in, brings_one_of, deepest, deeper, nesting, first_too_deep};
-ghost use Rattle.isf_reader.specs.Sections.{named, shown};
 ghost use Rattle.isf_reader.specs.Table.{HasNamesInOrder};
 
 use crate::{Field, UserType};
 use layer_base::Name;
 use std::alloc::{AllocError, Global};
-use std::collections::BTreeMap;
+use std::cmp::Ordering;
 
 const DEEPEST: usize = 32;
 
@@ -27,15 +28,25 @@ fn brought_in(field: &Field) -> Option<&Name>
 }
 
 // Whether one of the types has the name.
-fn has(types: &BTreeMap<&[u8], &UserType>, name: &[u8]) -> bool
-    ensures { result ≡ is_some (entry_named name.now (shown (λ key. key.now) (λ user. user.now) types.now.entries)) }
+fn has(types: &[&(Name, UserType)], name: &[u8]) -> bool
+    requires { HasNamesInOrder (map (λ entry. entry.now) types.now) }
+    ensures { result ≡ is_some (entry_named name.now (map (λ entry. entry.now) types.now)) }
 {
-    types.contains_key(name)
+    let found = types.binary_search_by(
+        |entry: &&(Name, UserType)| -> Ordering
+            ensures { result ≡ slice_cmp nat_cmp entry.now.now.0 name.entry.now }
+        { entry.0.items().cmp(name) },
+    );
+    match found {
+        Ok(_) => true,
+        Err(_) => false,
+    }
 }
 
 // Whether a field brings in one of the types.
-fn brings_in(types: &BTreeMap<&[u8], &UserType>, field: &Field) -> bool
-    ensures { result ≡ brings_in (shown (λ key. key.now) (λ user. user.now) types.now.entries) field.now }
+fn brings_in(types: &[&(Name, UserType)], field: &Field) -> bool
+    requires { HasNamesInOrder (map (λ entry. entry.now) types.now) }
+    ensures { result ≡ brings_in (map (λ entry. entry.now) types.now) field.now }
 {
     match brought_in(field) {
         Some(name) => has(types, name.items()),
@@ -44,23 +55,23 @@ fn brings_in(types: &BTreeMap<&[u8], &UserType>, field: &Field) -> bool
 }
 
 // Whether one of the fields does.
-fn any_brings_in(types: &BTreeMap<&[u8], &UserType>, fields: &[Field]) -> bool
-    ensures { result ≡ list_any (brings_in (shown (λ key. key.now) (λ user. user.now) types.now.entries)) fields.now }
+fn any_brings_in(types: &[&(Name, UserType)], fields: &[Field]) -> bool
+    requires { HasNamesInOrder (map (λ entry. entry.now) types.now) }
+    ensures { result ≡ list_any (brings_in (map (λ entry. entry.now) types.now)) fields.now }
 {
     fields.iter().any(|field| brings_in(types, field))
 }
 
-// All user types of a table, which stand in the order of their names.
+// All user types.
 fn all<'t>(
     alloc: Global,
-    users: &'t BTreeMap<Vec<u8>, UserType>,
-) -> Result<BTreeMap<&'t [u8], &'t UserType>, AllocError>
-    ensures all { IfOk result (λ types. shown (λ key. key.now) (λ user. user.now) types.entries ≡ named (λ name. name.items) users.now.entries) }
-    ensures order { IfOk result (λ _. HasNamesInOrder (named (λ name. name.items) users.now.entries)) }
+    users: &'t [(Name, UserType)],
+) -> Result<Vec<&'t (Name, UserType)>, AllocError>
+    ensures { IfOk result (λ types. map (λ entry. entry.now) types.items ≡ users.now) }
 {
-    let mut types = BTreeMap::new(alloc);
-    for (name, user) in users {
-        types.insert(name.as_slice(), user)?;
+    let mut types = Vec::with_capacity(alloc, users.len())?;
+    for entry in users {
+        types.push(entry)?;
     }
     Ok(types)
 }
@@ -68,14 +79,15 @@ fn all<'t>(
 // Those of the types that bring in one of them.
 fn deeper<'t>(
     alloc: Global,
-    types: &BTreeMap<&'t [u8], &'t UserType>,
-) -> Result<BTreeMap<&'t [u8], &'t UserType>, AllocError>
-    ensures { IfOk result (λ found. shown (λ key. key.now) (λ user. user.now) found.entries ≡ deeper (shown (λ key. key.now) (λ user. user.now) types.now.entries)) }
+    types: &[&'t (Name, UserType)],
+) -> Result<Vec<&'t (Name, UserType)>, AllocError>
+    requires { HasNamesInOrder (map (λ entry. entry.now) types.now) }
+    ensures { IfOk result (λ found. map (λ entry. entry.now) found.items ≡ deeper (map (λ entry. entry.now) types.now)) }
 {
-    let mut found = BTreeMap::new(alloc);
-    for (name, user) in types {
-        if any_brings_in(types, user.fields.items()) {
-            found.insert(*name, *user)?;
+    let mut found = Vec::new(alloc);
+    for entry in types {
+        if any_brings_in(types, entry.1.fields.items()) {
+            found.push(*entry)?;
         }
     }
     Ok(found)
@@ -84,9 +96,10 @@ fn deeper<'t>(
 // The user types in which anonymous fields nest too deep.
 fn too_deep<'t>(
     alloc: Global,
-    users: &'t BTreeMap<Vec<u8>, UserType>,
-) -> Result<BTreeMap<&'t [u8], &'t UserType>, AllocError>
-    ensures { IfOk result (λ types. shown (λ key. key.now) (λ user. user.now) types.entries ≡ nesting (named (λ name. name.items) users.now.entries) (suc deepest)) }
+    users: &'t [(Name, UserType)],
+) -> Result<Vec<&'t (Name, UserType)>, AllocError>
+    requires { HasNamesInOrder users.now }
+    ensures { IfOk result (λ types. map (λ entry. entry.now) types.items ≡ nesting users.now (suc deepest)) }
 {
     let mut types = all(alloc, users)?;
     for _level in 0..DEEPEST + 1 {
@@ -99,13 +112,14 @@ fn too_deep<'t>(
 #[tactic(auto, unfolding(crate::specs::Depth::first_too_deep))]
 pub(crate) fn first_too_deep(
     alloc: Global,
-    users: &BTreeMap<Vec<u8>, UserType>,
+    users: &[(Name, UserType)],
 ) -> Result<Option<Name>, AllocError>
-    ensures { IfOk result (λ name. name ≡ first_too_deep (named (λ name. name.items) users.now.entries)) }
+    requires { HasNamesInOrder users.now }
+    ensures { IfOk result (λ name. name ≡ first_too_deep users.now) }
 {
     let types = too_deep(alloc, users)?;
-    match types.first_key_value() {
-        Some((name, _)) => Ok(Some(Name::from(Vec::from_slice(alloc, name)?))),
+    match types.first() {
+        Some(entry) => Ok(Some(Name::of(alloc, entry.0.items())?)),
         None => Ok(None),
     }
 }

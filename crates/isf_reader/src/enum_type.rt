@@ -5,7 +5,7 @@ ghost use Rattle.serde_json.specs.View.{view, members_view};
 ghost use Rattle.isf_reader.specs.Enums.{by_value, constant_at, values_onto, constants_in, constants_of, enum_of};
 
 use crate::Key;
-use crate::json::{count_at, given, integer_of, name_at, name_of};
+use crate::json::{count_at, integer_of, taken_given, text_at};
 use crate::section::Entry;
 use layer_base::Name;
 use serde_json::{Map, Value};
@@ -81,16 +81,16 @@ fn put(found: &mut BTreeSet<(i128, Name)>, value: i128, name: Name) -> Result<()
 // The values and names of the members of an object. None where one is no whole number.
 fn values_in(
     alloc: Global,
-    members: &Map<String, Value>,
+    members: Map<String, Value>,
 ) -> Result<Option<BTreeSet<(i128, Name)>>, AllocError>
-    ensures { IfOk result (λ found. option_map (λ s. s.keys) found ≡ values_onto [] (members_view members.now.entries)) }
+    ensures { IfOk result (λ found. option_map (λ s. s.keys) found ≡ values_onto [] (members_view members.entries)) }
 {
     let mut found = BTreeSet::new(alloc);
     for (name, member) in members {
-        let Some(value) = integer_of(member) else {
+        let Some(value) = integer_of(&member) else {
             return Ok(None);
         };
-        put(&mut found, value, name_of(alloc, name)?)?;
+        put(&mut found, value, Name::from(name.into_bytes()))?;
     }
     Ok(Some(found))
 }
@@ -99,7 +99,9 @@ fn values_in(
 fn constants_from(alloc: Global, found: BTreeSet<(i128, Name)>) -> Result<Constants, AllocError>
     ensures { IfOk result (λ constants. constants ≡ map constant_at found.keys) }
 {
-    let mut constants = Constants::new(alloc);
+    let mut constants = Constants {
+        items: Vec::with_capacity(alloc, found.len())?,
+    };
     for (value, name) in found {
         constants.add(Constant { name, value })?;
     }
@@ -107,11 +109,8 @@ fn constants_from(alloc: Global, found: BTreeSet<(i128, Name)>) -> Result<Consta
 }
 
 // The constants of an object of whole numbers.
-fn constants_in(
-    alloc: Global,
-    members: &Map<String, Value>,
-) -> Result<Option<Constants>, AllocError>
-    ensures { IfOk result (λ constants. constants ≡ constants_in (members_view members.now.entries)) }
+fn constants_in(alloc: Global, members: Map<String, Value>) -> Result<Option<Constants>, AllocError>
+    ensures { IfOk result (λ constants. constants ≡ constants_in (members_view members.entries)) }
 {
     match values_in(alloc, members)? {
         Some(found) => Ok(Some(constants_from(alloc, found)?)),
@@ -120,29 +119,30 @@ fn constants_in(
 }
 
 // The constants of an enum; the empty list where the key is missing or null.
-fn constants_of(alloc: Global, value: Option<&Value>) -> Result<Option<Constants>, AllocError>
-    ensures { IfOk result (λ constants. constants ≡ constants_of (option_map (λ v. view v.now) value.entry)) }
+fn constants_of(alloc: Global, value: Option<Value>) -> Result<Option<Constants>, AllocError>
+    ensures { IfOk result (λ constants. constants ≡ constants_of (option_map view value)) }
 {
     let Some(value) = value else {
         return Ok(Some(Constants::new(alloc)));
     };
-    match value.as_object() {
-        Some(members) => constants_in(alloc, members),
-        None => Ok(None),
+    match value {
+        Value::Object(members) => constants_in(alloc, members),
+        _ => Ok(None),
     }
 }
 
 // Reads an enum, or gives its first key at fault.
-fn enum_of(alloc: Global, entry: &Value) -> Result<Result<EnumType, Key>, AllocError>
-    ensures { IfOk result (λ read. read ≡ enum_of (view entry.now)) }
+fn enum_of(alloc: Global, mut entry: Value) -> Result<Result<EnumType, Key>, AllocError>
+    ensures { IfOk result (λ read. read ≡ enum_of (view entry)) }
 {
-    let Some(size) = count_at(entry, "size") else {
+    let Some(size) = count_at(&entry, "size") else {
         return Ok(Err(Key::Size));
     };
-    let Some(base) = name_at(alloc, entry, "base")? else {
+    let Some(base) = text_at(&entry, "base") else {
         return Ok(Err(Key::Base));
     };
-    let Some(constants) = constants_of(alloc, given(entry, "constants"))? else {
+    let base = Name::of(alloc, base.as_bytes())?;
+    let Some(constants) = constants_of(alloc, taken_given(&mut entry, "constants"))? else {
         return Ok(Err(Key::Constants));
     };
     Ok(Ok(EnumType {
@@ -158,7 +158,7 @@ impl Entry for EnumType {
     fn read(
         alloc: Global,
         _name: &[u8],
-        entry: &Value,
+        entry: Value,
     ) -> Result<Result<EnumType, Key>, AllocError> {
         enum_of(alloc, entry)
     }

@@ -2,16 +2,15 @@
 ghost use Rattle.std.specs.Prelude.{◌≡◌, ◌⊎◌, ℕ, List, false, Some, None, Ok, option_map, bytes_eq, IfOk, IfErr, codes};
 ghost use Rattle.serde_json.specs.Find.{get_member};
 ghost use Rattle.serde_json.specs.View.{view, members_view};
-ghost use Rattle.isf_reader.specs.Maps.{sections_view};
-ghost use Rattle.isf_reader.specs.Sections.{named, section_of};
+ghost use Rattle.isf_reader.specs.Lists.{sections_view};
+ghost use Rattle.isf_reader.specs.Sections.{section_of};
 ghost use Rattle.isf_reader.specs.Table.{in_section, sections_of, file_of, tree_of, RefusesAs};
 
-use crate::section::{Entry, EntryName, Fault, section_of};
+use crate::section::{Entry, Fault, section_of};
 use crate::{BaseType, EnumType, IsfRefusal, Key, Section, Symbol, UserType};
 use layer_base::Name;
 use serde_json::{Map, Value};
 use std::alloc::{AllocError, Global};
-use std::collections::BTreeMap;
 
 // What stands at the keys of the four sections.
 #[derive(Drop)]
@@ -50,25 +49,25 @@ fn parts_of(mut root: Map<String, Value>) -> Parts
     }
 }
 
-// The entries of the four sections.
-#[derive(Drop)]
-pub(crate) struct Maps {
-    pub bases: BTreeMap<Vec<u8>, BaseType>,
-    pub enums: BTreeMap<Vec<u8>, EnumType>,
-    pub users: BTreeMap<Vec<u8>, UserType>,
-    pub symbols: BTreeMap<Name, Symbol>,
+// The entries of the four sections, by their names in byte order.
+#[derive(Debug, Drop)]
+pub(crate) struct Lists {
+    pub bases: Vec<(Name, BaseType)>,
+    pub enums: Vec<(Name, EnumType)>,
+    pub users: Vec<(Name, UserType)>,
+    pub symbols: Vec<(Name, Symbol)>,
 }
 
 // The entries of a section. A fault is told with the section.
-fn in_section<K: EntryName, E: Entry>(
+fn in_section<E: Entry>(
     alloc: Global,
     section: Section,
     value: Option<Value>,
-) -> Result<BTreeMap<K, E>, IsfRefusal>
-    ensures ok { IfOk result (λ m. in_section section (section_of E.reads (option_map view value)) ≡ Ok (named K.spelled m.entries)) }
+) -> Result<Vec<(Name, E)>, IsfRefusal>
+    ensures ok { IfOk result (λ entries. in_section section (section_of E.reads (option_map view value)) ≡ Ok entries.items) }
     ensures err { IfErr result (RefusesAs (in_section section (section_of E.reads (option_map view value)))) }
 {
-    match section_of::<K, E>(alloc, value) {
+    match section_of::<E>(alloc, value) {
         Ok(Ok(entries)) => Ok(entries),
         Ok(Err(Fault { name, key })) => Err(IsfRefusal::BadEntry { section, name, key }),
         Err(AllocError) => Err(IsfRefusal::Memory),
@@ -76,9 +75,9 @@ fn in_section<K: EntryName, E: Entry>(
 }
 
 // The entries of the four sections, read in this order.
-fn maps_of(alloc: Global, parts: Parts) -> Result<Maps, IsfRefusal>
-    ensures ok { IfOk result (λ maps. sections_of (option_map view parts.bases) (option_map view parts.enums) (option_map view parts.users) (option_map view parts.symbols)
-        ≡ Ok (sections_view maps)) }
+fn lists_of(alloc: Global, parts: Parts) -> Result<Lists, IsfRefusal>
+    ensures ok { IfOk result (λ lists. sections_of (option_map view parts.bases) (option_map view parts.enums) (option_map view parts.users) (option_map view parts.symbols)
+        ≡ Ok (sections_view lists)) }
     ensures err { IfErr result (RefusesAs
         (sections_of (option_map view parts.bases) (option_map view parts.enums) (option_map view parts.users) (option_map view parts.symbols))) }
 {
@@ -92,7 +91,7 @@ fn maps_of(alloc: Global, parts: Parts) -> Result<Maps, IsfRefusal>
     let enums = in_section(alloc, Section::Enums, enums)?;
     let users = in_section(alloc, Section::UserTypes, users)?;
     let symbols = in_section(alloc, Section::Symbols, symbols)?;
-    Ok(Maps {
+    Ok(Lists {
         bases,
         enums,
         users,
@@ -101,12 +100,12 @@ fn maps_of(alloc: Global, parts: Parts) -> Result<Maps, IsfRefusal>
 }
 
 // The entries of a file.
-pub(crate) fn file_of(alloc: Global, root: Value) -> Result<Maps, IsfRefusal>
-    ensures ok { IfOk result (λ maps. file_of (view root) ≡ Ok (sections_view maps)) }
+pub(crate) fn file_of(alloc: Global, root: Value) -> Result<Lists, IsfRefusal>
+    ensures ok { IfOk result (λ lists. file_of (view root) ≡ Ok (sections_view lists)) }
     ensures err { IfErr result (RefusesAs (file_of (view root))) }
 {
     match root {
-        Value::Object(root) => maps_of(alloc, parts_of(root)),
+        Value::Object(root) => lists_of(alloc, parts_of(root)),
         _ => Err(IsfRefusal::BadEntry {
             section: Section::File,
             name: Name::new(alloc),

@@ -1,11 +1,12 @@
-//! Looking into an entry of a symbol file.
-ghost use Rattle.std.specs.Prelude.{◌≡◌, option_map, IfOk};
+//! Looking into an entry of a symbol file. Numbers and words are read where they stand. A name, a list or a type is taken,
+//! so that its memory goes on to the table, and null is left in its place: it is what is read last of an entry.
+ghost use Rattle.std.specs.Prelude.{◌≡◌, option_map};
+ghost use Rattle.serde_json.specs.Find.{get};
 ghost use Rattle.serde_json.specs.View.{view};
 ghost use Rattle.isf_reader.specs.Json.{given, count_of, integer_of, count_at, text_at, natural_at, flag_at};
 
 use layer_base::Name;
 use serde_json::Value;
-use std::alloc::{AllocError, Global};
 
 // What stands at a key: None where the key is missing, or null.
 pub(crate) fn given<'v>(entry: &'v Value, key: &str) -> Option<&'v Value>
@@ -13,6 +14,36 @@ pub(crate) fn given<'v>(entry: &'v Value, key: &str) -> Option<&'v Value>
 {
     let value = entry.get(key)?;
     if value.is_null() { None } else { Some(value) }
+}
+
+// Takes what stands at a key.
+pub(crate) fn taken(entry: &mut Value, key: &str) -> Option<Value>
+    ensures { option_map view result ≡ get key.now (view entry.old) }
+{
+    match entry.get_mut(key) {
+        Some(value) => Some(value.take()),
+        None => None,
+    }
+}
+
+// Takes what stands at a key: None where the key is missing, or null.
+pub(crate) fn taken_given(entry: &mut Value, key: &str) -> Option<Value>
+    ensures { option_map view result ≡ given key.now (view entry.old) }
+{
+    match taken(entry, key) {
+        Some(Value::Null) => None,
+        value => value,
+    }
+}
+
+// Takes the text at a key.
+pub(crate) fn taken_name(entry: &mut Value, key: &str) -> Option<Name>
+    ensures { result ≡ text_at key.now (view entry.old) }
+{
+    match taken(entry, key) {
+        Some(Value::String(text)) => Some(Name::from(text.into_bytes())),
+        _ => None,
+    }
 }
 
 // A whole number from 0 to 4,294,967,295.
@@ -55,21 +86,4 @@ pub(crate) fn flag_at(entry: &Value, key: &str) -> Option<bool>
     ensures { result ≡ flag_at key.now (view entry.now) }
 {
     entry.get(key).and_then(Value::as_bool)
-}
-
-// A copy of a text.
-pub(crate) fn name_of(alloc: Global, text: &str) -> Result<Name, AllocError>
-    ensures { IfOk result (λ name. name ≡ text.now) }
-{
-    Ok(Name::from(Vec::from_slice(alloc, text.as_bytes())?))
-}
-
-// A copy of the text at a key.
-pub(crate) fn name_at(alloc: Global, entry: &Value, key: &str) -> Result<Option<Name>, AllocError>
-    ensures { IfOk result (λ name. name ≡ text_at key.now (view entry.now)) }
-{
-    match text_at(entry, key) {
-        Some(text) => Ok(Some(name_of(alloc, text)?)),
-        None => Ok(None),
-    }
 }

@@ -7,6 +7,7 @@ mod depth;
 mod enum_type;
 mod file;
 mod json;
+mod lookup;
 mod refusal;
 mod section;
 mod symbol;

@@ -3,7 +3,7 @@ ghost use Rattle.std.specs.Prelude.{◌≡◌, option_map, IfOk};
 ghost use Rattle.serde_json.specs.View.{view};
 ghost use Rattle.isf_reader.specs.Symbols.{optional_type, decoded, optional_bytes, symbol_of};
 
-use crate::json::{given, natural_at};
+use crate::json::{given, natural_at, taken_given};
 use crate::section::Entry;
 use crate::type_of::type_of;
 use crate::{Key, TypeRef};
@@ -22,11 +22,8 @@ pub struct Symbol {
 }
 
 // The type of a symbol; no type where the key is missing or null.
-fn optional_type(
-    alloc: Global,
-    value: Option<&Value>,
-) -> Result<Option<Option<TypeRef>>, AllocError>
-    ensures { IfOk result (λ of. of ≡ optional_type (option_map (λ v. view v.now) value.entry)) }
+fn optional_type(alloc: Global, value: Option<Value>) -> Result<Option<Option<TypeRef>>, AllocError>
+    ensures { IfOk result (λ of. of ≡ optional_type (option_map view value)) }
 {
     match value {
         Some(value) => Ok(type_of(alloc, value)?.map(Some)),
@@ -60,16 +57,17 @@ fn optional_bytes(alloc: Global, value: Option<&Value>) -> Result<Option<Option<
 }
 
 // Reads a symbol, or gives its first key at fault.
-fn symbol_of(alloc: Global, entry: &Value) -> Result<Result<Symbol, Key>, AllocError>
-    ensures { IfOk result (λ read. read ≡ symbol_of (view entry.now)) }
+fn symbol_of(alloc: Global, mut entry: Value) -> Result<Result<Symbol, Key>, AllocError>
+    ensures { IfOk result (λ read. read ≡ symbol_of (view entry)) }
 {
-    let Some(address) = natural_at(entry, "address") else {
+    let Some(address) = natural_at(&entry, "address") else {
         return Ok(Err(Key::Address));
     };
-    let Some(of) = optional_type(alloc, given(entry, "type"))? else {
+    let constant = optional_bytes(alloc, given(&entry, "constant_data"))?;
+    let Some(of) = optional_type(alloc, taken_given(&mut entry, "type"))? else {
         return Ok(Err(Key::Of));
     };
-    let Some(constant) = optional_bytes(alloc, given(entry, "constant_data"))? else {
+    let Some(constant) = constant else {
         return Ok(Err(Key::ConstantData));
     };
     Ok(Ok(Symbol {
@@ -82,7 +80,7 @@ fn symbol_of(alloc: Global, entry: &Value) -> Result<Result<Symbol, Key>, AllocE
 impl Entry for Symbol {
     ghost reads = { λ name. symbol_of };
 
-    fn read(alloc: Global, _name: &[u8], entry: &Value) -> Result<Result<Symbol, Key>, AllocError> {
+    fn read(alloc: Global, _name: &[u8], entry: Value) -> Result<Result<Symbol, Key>, AllocError> {
         symbol_of(alloc, entry)
     }
 }

@@ -2,15 +2,14 @@
 ghost use Rattle.std.specs.Prelude.{◌≡◌, Ok, IfOk, IfErr};
 ghost use Rattle.std.specs.Option.{option_copied};
 ghost use Rattle.isf_reader.specs.Depth.{entry_named};
-ghost use Rattle.isf_reader.specs.Sections.{named};
 ghost use Rattle.isf_reader.specs.Table.{table_of, RefusesAs, IsTable};
 
 use crate::depth::first_too_deep;
-use crate::file::{Maps, file_of, tree_of};
+use crate::file::{Lists, file_of, tree_of};
+use crate::lookup::entry_named;
 use crate::{BaseType, EnumType, IsfRefusal, Symbol, UserType};
 use layer_base::Name;
 use std::alloc::Global;
-use std::collections::BTreeMap;
 use std::marker::Model;
 
 const MOST_BYTES: usize = 1 << 27;
@@ -20,16 +19,13 @@ const MOST_BYTES: usize = 1 << 27;
 /// name, constants by value and then by name, and anonymous fields nest at most 32 levels deep.
 #[derive(Debug, Drop)]
 pub struct Table {
-    bases: BTreeMap<Vec<u8>, BaseType>,
-    enums: BTreeMap<Vec<u8>, EnumType>,
-    users: BTreeMap<Vec<u8>, UserType>,
-    symbols: BTreeMap<Name, Symbol>,
+    lists: Lists,
 }
 
 impl Model for Table {
     ghost use Rattle.std.specs.Prelude.{ℕ, List, refl};
     ghost use Rattle.std.specs.Coded.{code_by, coded_list, coded×, coded_ℕ};
-    ghost use Rattle.isf_reader.specs.Sections.{named};
+    ghost use Rattle.isf_reader.specs.Lists.{sections_view};
     ghost use Rattle.isf_reader.specs.Table.{Sections, IsTable};
     ghost use Rattle.isf_reader.specs.declared.base_type.BaseType.{BaseType};
     ghost use Rattle.isf_reader.specs.declared.enum_type.EnumType.{EnumType};
@@ -51,26 +47,9 @@ impl Model for Table {
         (λ p. record { bases = p.0; enums = (p.1).0; users = ((p.1).1).0; symbols = ((p.1).1).1 })
         (λ _. refl) };
 
-    ghost view = { λ t. record {
-      bases = named (λ name. name.items) t.bases.entries;
-      enums = named (λ name. name.items) t.enums.entries;
-      users = named (λ name. name.items) t.users.entries;
-      symbols = named (λ name. name) t.symbols.entries;
-    } };
+    ghost view = { λ t. sections_view t.lists };
 
-    ghost invariant = { λ t. IsTable (record {
-      bases = named (λ name. name.items) t.bases.entries;
-      enums = named (λ name. name.items) t.enums.entries;
-      users = named (λ name. name.items) t.users.entries;
-      symbols = named (λ name. name) t.symbols.entries;
-    }) };
-}
-
-// The entry of a name.
-fn entry_of<'t, E>(entries: &'t BTreeMap<Vec<u8>, E>, name: &[u8]) -> Option<&'t E>
-    ensures { option_copied result ≡ entry_named name.now (named (λ key. key.items) entries.now.entries) }
-{
-    entries.get(name)
+    ghost invariant = { λ t. IsTable (sections_view t.lists) };
 }
 
 impl Table {
@@ -88,22 +67,11 @@ impl Table {
             return Err(IsfRefusal::TooLarge { len: json.len() });
         }
         let root = tree_of(alloc, json)?;
-        let maps = file_of(alloc, root)?;
-        if let Some(name) = first_too_deep(alloc, &maps.users)? {
+        let lists = file_of(alloc, root)?;
+        if let Some(name) = first_too_deep(alloc, &lists.users)? {
             return Err(IsfRefusal::AnonDepth { name });
         }
-        let Maps {
-            bases,
-            enums,
-            users,
-            symbols,
-        } = maps;
-        Ok(Table {
-            bases,
-            enums,
-            users,
-            symbols,
-        })
+        Ok(Table { lists })
     }
 
     /// Returns the base type with a name, or None where no base type has it.
@@ -111,7 +79,7 @@ impl Table {
         ensures value { option_copied result ≡ entry_named name.now self.now.bases }
         ensures kept { IsTable self.now }
     {
-        entry_of(&self.bases, name)
+        entry_named(&self.lists.bases, name)
     }
 
     /// Returns the enum with a name, or None where no enum has it.
@@ -119,7 +87,7 @@ impl Table {
         ensures value { option_copied result ≡ entry_named name.now self.now.enums }
         ensures kept { IsTable self.now }
     {
-        entry_of(&self.enums, name)
+        entry_named(&self.lists.enums, name)
     }
 
     /// Returns the user type with a name, or None where no user type has it.
@@ -127,14 +95,14 @@ impl Table {
         ensures value { option_copied result ≡ entry_named name.now self.now.users }
         ensures kept { IsTable self.now }
     {
-        entry_of(&self.users, name)
+        entry_named(&self.lists.users, name)
     }
 
     /// The symbols, by their names in byte order.
-    pub fn symbols(&self) -> &BTreeMap<Name, Symbol>
-        ensures value { result.now.entries ≡ self.now.symbols }
+    pub fn symbols(&self) -> &[(Name, Symbol)]
+        ensures value { result.now ≡ self.now.symbols }
         ensures kept { IsTable self.now }
     {
-        &self.symbols
+        &self.lists.symbols
     }
 }

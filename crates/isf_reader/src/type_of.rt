@@ -4,8 +4,7 @@ ghost use Rattle.serde_json.specs.View.{view};
 ghost use Rattle.isf_reader.specs.TypeOf.{shape_of, shape_at, type_of, type_at, array_of, bits_of};
 
 use crate::TypeRef;
-use crate::json::{count_at, name_at, text_at};
-use layer_base::Name;
+use crate::json::{count_at, taken, taken_name, text_at};
 use serde_json::Value;
 use sqlite_items::Boxed;
 use std::alloc::{AllocError, Global};
@@ -60,25 +59,33 @@ fn shape_at(value: &Value) -> Option<Shape>
 
 // Reads a descriptor. None where it describes no type.
 #[cycle(type_of)]
-pub(crate) fn type_of(alloc: Global, value: &Value) -> Result<Option<TypeRef>, AllocError>
-    ensures { IfOk result (λ of. of ≡ type_of (view value.now)) }
+pub(crate) fn type_of(alloc: Global, mut value: Value) -> Result<Option<TypeRef>, AllocError>
+    ensures { IfOk result (λ of. of ≡ type_of (view value)) }
 {
-    let Some(shape) = shape_at(value) else {
+    let Some(shape) = shape_at(&value) else {
         return Ok(None);
     };
     match shape {
-        Shape::Base => Ok(name_at(alloc, value, "name")?.map(TypeRef::Base)),
-        Shape::Struct => Ok(name_at(alloc, value, "name")?.map(TypeRef::Struct)),
-        Shape::Union => Ok(name_at(alloc, value, "name")?.map(TypeRef::Union)),
-        Shape::Class => Ok(name_at(alloc, value, "name")?.map(TypeRef::Class)),
-        Shape::Enum => Ok(name_at(alloc, value, "name")?.map(TypeRef::Enum)),
-        Shape::Pointer => Ok(type_at(alloc, value, "subtype")?.map(TypeRef::Pointer)),
-        Shape::Array => Ok(array_of(count_at(value, "count"), type_at(alloc, value, "subtype")?)),
-        Shape::Bits => Ok(bits_of(
-            count_at(value, "bit_position"),
-            count_at(value, "bit_length"),
-            type_at(alloc, value, "type")?,
-        )),
+        Shape::Base => Ok(taken_name(&mut value, "name").map(TypeRef::Base)),
+        Shape::Struct => Ok(taken_name(&mut value, "name").map(TypeRef::Struct)),
+        Shape::Union => Ok(taken_name(&mut value, "name").map(TypeRef::Union)),
+        Shape::Class => Ok(taken_name(&mut value, "name").map(TypeRef::Class)),
+        Shape::Enum => Ok(taken_name(&mut value, "name").map(TypeRef::Enum)),
+        Shape::Pointer => {
+            let of = type_at(alloc, &mut value, "subtype")?;
+            Ok(boxed(alloc, of)?.map(TypeRef::Pointer))
+        }
+        Shape::Array => {
+            let count = count_at(&value, "count");
+            let of = type_at(alloc, &mut value, "subtype")?;
+            Ok(array_of(count, boxed(alloc, of)?))
+        }
+        Shape::Bits => {
+            let position = count_at(&value, "bit_position");
+            let length = count_at(&value, "bit_length");
+            let of = type_at(alloc, &mut value, "type")?;
+            Ok(bits_of(position, length, boxed(alloc, of)?))
+        }
         Shape::Function => Ok(Some(TypeRef::Function)),
     }
 }
@@ -87,18 +94,25 @@ pub(crate) fn type_of(alloc: Global, value: &Value) -> Result<Option<TypeRef>, A
 #[cycle(type_of)]
 pub(crate) fn type_at(
     alloc: Global,
-    value: &Value,
+    value: &mut Value,
     key: &str,
-) -> Result<Option<Boxed<TypeRef>>, AllocError>
-    ensures { IfOk result (λ of. of ≡ type_at key.now (view value.now)) }
+) -> Result<Option<TypeRef>, AllocError>
+    ensures { IfOk result (λ of. of ≡ type_at key.now (view value.old)) }
 {
-    let Some(inner) = value.get(key) else {
-        return Ok(None);
-    };
-    let Some(of) = type_of(alloc, inner)? else {
-        return Ok(None);
-    };
-    Ok(Some(Boxed::new(alloc, of)?))
+    match taken(value, key) {
+        Some(inner) => type_of(alloc, inner),
+        None => Ok(None),
+    }
+}
+
+// The type in a box.
+fn boxed(alloc: Global, of: Option<TypeRef>) -> Result<Option<Boxed<TypeRef>>, AllocError>
+    ensures { IfOk result (λ boxed. boxed ≡ of) }
+{
+    match of {
+        Some(of) => Ok(Some(Boxed::new(alloc, of)?)),
+        None => Ok(None),
+    }
 }
 
 fn array_of(count: Option<u64>, of: Option<Boxed<TypeRef>>) -> Option<TypeRef>

@@ -1,9 +1,9 @@
 //! User types and their fields.
-ghost use Rattle.std.specs.Prelude.{◌≡◌, [], ◌∷◌, ◌++◌, map, option_map, IfOk, OnOk, OnErr};
+ghost use Rattle.std.specs.Prelude.{◌≡◌, [], ◌∷◌, ◌++◌, map, option_map, string_bytes, IfOk, OnOk, OnErr};
 ghost use Rattle.serde_json.specs.View.{view, members_view};
 ghost use Rattle.isf_reader.specs.UserTypes.{user_kind_of, flag_or_false, placed_of, fields_onto, field_at, fields_in, fields_of, user_of};
 
-use crate::json::{count_at, given, name_of, text_at};
+use crate::json::{count_at, given, taken_given, text_at};
 use crate::section::Entry;
 use crate::type_of::type_at;
 use crate::{Key, TypeRef};
@@ -117,28 +117,33 @@ type Place = (u64, Name);
 type Held = (TypeRef, bool);
 
 // Reads the field of that name. None where one of its keys is at fault.
-fn placed_of(alloc: Global, name: &str, member: &Value) -> Result<Option<(Place, Held)>, AllocError>
-    ensures { IfOk result (λ placed. placed ≡ placed_of name.now (view member.now)) }
+fn placed_of(
+    alloc: Global,
+    name: String,
+    mut member: Value,
+) -> Result<Option<(Place, Held)>, AllocError>
+    ensures { IfOk result (λ placed. placed ≡ placed_of (string_bytes name) (view member)) }
 {
-    let Some(offset) = count_at(member, "offset") else {
+    let Some(offset) = count_at(&member, "offset") else {
         return Ok(None);
     };
-    let Some(of) = type_at(alloc, member, "type")? else {
+    let anonymous = flag_or_false(given(&member, "anonymous"));
+    let Some(of) = type_at(alloc, &mut member, "type")? else {
         return Ok(None);
     };
-    let Some(anonymous) = flag_or_false(given(member, "anonymous")) else {
+    let Some(anonymous) = anonymous else {
         return Ok(None);
     };
-    let name = name_of(alloc, name)?;
-    Ok(Some(((offset, name), (of.into_inner(), anonymous))))
+    let name = Name::from(name.into_bytes());
+    Ok(Some(((offset, name), (of, anonymous))))
 }
 
 // The fields that the members of an object are, by their places. None where one is at fault.
 fn placed_in(
     alloc: Global,
-    members: &Map<String, Value>,
+    members: Map<String, Value>,
 ) -> Result<Option<BTreeMap<Place, Held>>, AllocError>
-    ensures { IfOk result (λ found. option_map (λ m. m.entries) found ≡ fields_onto [] (members_view members.now.entries)) }
+    ensures { IfOk result (λ found. option_map (λ m. m.entries) found ≡ fields_onto [] (members_view members.entries)) }
 {
     let mut found = BTreeMap::new(alloc);
     for (name, member) in members {
@@ -154,7 +159,9 @@ fn placed_in(
 fn fields_from(alloc: Global, found: BTreeMap<Place, Held>) -> Result<Fields, AllocError>
     ensures { IfOk result (λ fields. fields ≡ map field_at found.entries) }
 {
-    let mut fields = Fields::new(alloc);
+    let mut fields = Fields {
+        items: Vec::with_capacity(alloc, found.len())?,
+    };
     for ((offset, name), (of, anonymous)) in found {
         fields.add(Field {
             name,
@@ -167,8 +174,8 @@ fn fields_from(alloc: Global, found: BTreeMap<Place, Held>) -> Result<Fields, Al
 }
 
 // The fields of an object of fields.
-fn fields_in(alloc: Global, members: &Map<String, Value>) -> Result<Option<Fields>, AllocError>
-    ensures { IfOk result (λ fields. fields ≡ fields_in (members_view members.now.entries)) }
+fn fields_in(alloc: Global, members: Map<String, Value>) -> Result<Option<Fields>, AllocError>
+    ensures { IfOk result (λ fields. fields ≡ fields_in (members_view members.entries)) }
 {
     match placed_in(alloc, members)? {
         Some(found) => Ok(Some(fields_from(alloc, found)?)),
@@ -177,29 +184,29 @@ fn fields_in(alloc: Global, members: &Map<String, Value>) -> Result<Option<Field
 }
 
 // The fields of a user type; the empty list where the key is missing or null.
-fn fields_of(alloc: Global, value: Option<&Value>) -> Result<Option<Fields>, AllocError>
-    ensures { IfOk result (λ fields. fields ≡ fields_of (option_map (λ v. view v.now) value.entry)) }
+fn fields_of(alloc: Global, value: Option<Value>) -> Result<Option<Fields>, AllocError>
+    ensures { IfOk result (λ fields. fields ≡ fields_of (option_map view value)) }
 {
     let Some(value) = value else {
         return Ok(Some(Fields::new(alloc)));
     };
-    match value.as_object() {
-        Some(members) => fields_in(alloc, members),
-        None => Ok(None),
+    match value {
+        Value::Object(members) => fields_in(alloc, members),
+        _ => Ok(None),
     }
 }
 
 // Reads a user type, or gives its first key at fault.
-fn user_of(alloc: Global, entry: &Value) -> Result<Result<UserType, Key>, AllocError>
-    ensures { IfOk result (λ read. read ≡ user_of (view entry.now)) }
+fn user_of(alloc: Global, mut entry: Value) -> Result<Result<UserType, Key>, AllocError>
+    ensures { IfOk result (λ read. read ≡ user_of (view entry)) }
 {
-    let Some(size) = count_at(entry, "size") else {
+    let Some(size) = count_at(&entry, "size") else {
         return Ok(Err(Key::Size));
     };
-    let Some(kind) = text_at(entry, "kind").and_then(user_kind_of) else {
+    let Some(kind) = text_at(&entry, "kind").and_then(user_kind_of) else {
         return Ok(Err(Key::Kind));
     };
-    let Some(fields) = fields_of(alloc, given(entry, "fields"))? else {
+    let Some(fields) = fields_of(alloc, taken_given(&mut entry, "fields"))? else {
         return Ok(Err(Key::Fields));
     };
     Ok(Ok(UserType { size, kind, fields }))
@@ -211,7 +218,7 @@ impl Entry for UserType {
     fn read(
         alloc: Global,
         _name: &[u8],
-        entry: &Value,
+        entry: Value,
     ) -> Result<Result<UserType, Key>, AllocError> {
         user_of(alloc, entry)
     }

@@ -1,5 +1,5 @@
 //! A name: a list of bytes.
-ghost use Rattle.std.specs.Prelude.{◌≡◌, [], ◌∷◌, ◌++◌, Some, OnOk, OnErr, refl, bytes_eq};
+ghost use Rattle.std.specs.Prelude.{◌≡◌, [], ◌∷◌, ◌++◌, Some, IfOk, OnOk, OnErr, refl, bytes_eq};
 ghost use Rattle.std.specs.Cmp.{partial_equiv_from_equiv};
 ghost use Rattle.std.specs.Cmp.Lexicographic.{slice_cmp, nat_list_eq_equiv, nat_list_cmp_total, texts_ties, texts_po};
 ghost use Rattle.std.specs.Ordering.{nat_cmp};
@@ -30,6 +30,13 @@ impl Name {
         Name {
             bytes: Vec::new(alloc),
         }
+    }
+
+    /// A copy of bytes.
+    pub fn of(alloc: Global, bytes: &[u8]) -> Result<Name, AllocError>
+        ensures { IfOk result (λ name. name ≡ bytes.now) }
+    {
+        Ok(Name::from(Vec::from_slice(alloc, bytes)?))
     }
 
     /// Puts a byte at the end. When out of memory, the name is left as it was.

@@ -14,8 +14,9 @@ pub(crate) fn by_names<'t>(alloc: Global, table: &'t Table) -> Result<Vec<Line<'
     ensures all { IfOk result (λ lines. map listed lines.items ≡ table.now.symbols) }
     ensures order { IfOk result (λ lines. HasNamesInOrder (map listed lines.items)) }
 {
-    let mut lines = Vec::new(alloc);
-    for (name, symbol) in table.symbols() {
+    let all = table.symbols();
+    let mut lines = Vec::with_capacity(alloc, all.len())?;
+    for (name, symbol) in all {
         lines.push(Line { name, symbol })?;
     }
     Ok(lines)

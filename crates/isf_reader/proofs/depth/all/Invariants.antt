@@ -1,7 +1,5 @@
-use Rattle.std.proofs.Common.{◌≡◌, ◌++◌}
-use Rattle.isf_reader.specs.Sections.{named, shown}
+use Rattle.std.proofs.Common.{◌≡◌, map, take}
 use Rattle.isf_reader.proofs.depth.all.Given as goal
 
-abbrev pub invariant-loop-name : goal.invariant-loop-name
-invariant-loop-name l =
-    shown (λ key. key.now) (λ user. user.now) l.types.entries ++ named (λ name. name.items) l.name-iterator ≡ named (λ name. name.items) l.fn.users.entries
+abbrev pub invariant-loop-entry : goal.invariant-loop-entry
+invariant-loop-entry l = map (λ entry. entry.now) l.types.items ≡ take l.entry-index l.users

@@ -1,9 +1,7 @@
-use Rattle.std.proofs.Common.{◌≡◌, ◌++◌, filter}
-use Rattle.isf_reader.specs.Depth.{brings_one_of, deeper}
-use Rattle.isf_reader.specs.Sections.{shown}
+use Rattle.std.proofs.Common.{◌≡◌, map, take, filter}
+use Rattle.isf_reader.specs.Depth.{brings_one_of}
 use Rattle.isf_reader.proofs.depth.deeper.Given as goal
 
-abbrev pub invariant-loop-name : goal.invariant-loop-name
-invariant-loop-name l =
-    let types = shown (λ key. key.now) (λ user. user.now) l.fn.types.entries in
-    shown (λ key. key.now) (λ user. user.now) l.found.entries ++ filter (λ e. brings_one_of types e.1) (shown (λ key. key.now) (λ user. user.now) l.name-iterator) ≡ deeper types
+abbrev pub invariant-loop-entry : goal.invariant-loop-entry
+invariant-loop-entry l =
+    map (λ entry. entry.now) l.found.items ≡ filter (λ e. brings_one_of (map (λ entry. entry.now) l.types) e.1) (map (λ entry. entry.now) (take l.entry-index l.types))

@@ -1,6 +1,18 @@
-use Rattle.std.proofs.Common.{◌∙◌}
-use Rattle.isf_reader.proofs.Named.{there_by_name}
+use Rattle.std.proofs.Common.{◌≡◌, rules, ap, sym, map, slice_index_or, is_some}
+use Rattle.std.proofs.lemmas.Fn.{always_returns_same}
+use Rattle.isf_reader.proofs.Search.{stands, there, missed, name_rises, apart}
 use Rattle.isf_reader.proofs.depth.has.Goals as goal
 
-pub returns : goal.returns
-returns c = c.contains_key.ensures ∙ there_by_name (λ key. key.now) (λ user. user.now) c.args.name.now c.args.types.now.entries
+pub returns-in-Ok : goal.returns-in-Ok
+returns-in-Ok c =
+    let name = c.args.name.now in
+    let types = c.args.types.now in
+    let equal = c.in-Ok.ensures.position (stands (λ entry. entry.now) name) (always_returns_same _ (λ a r. r ≡ stands (λ entry. entry.now) name a.0.now) _ (λ a r q k. search rules)) in
+    there (λ entry. entry.now) name types c.in-Ok.field-0 c.requires c.in-Ok.ensures.bound equal
+
+pub returns-in-Err : goal.returns-in-Err
+returns-in-Err c =
+    let name = c.args.name.now in
+    let types = c.args.types.now in
+    let parts = c.in-Err.ensures.position (stands (λ entry. entry.now) name) (always_returns_same _ (λ a r. r ≡ stands (λ entry. entry.now) name a.0.now) _ (λ a r q k. search rules)) (name_rises (λ entry. entry.now) name types c.requires) in
+    sym (ap is_some (missed (λ entry. entry.now) name types (apart (λ entry. entry.now) name types c.in-Err.field-0 parts)))

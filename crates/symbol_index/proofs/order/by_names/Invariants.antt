@@ -1,7 +1,7 @@
-use Rattle.std.proofs.Common.{◌≡◌, ◌++◌, map}
+use Rattle.std.proofs.Common.{◌≡◌, map, take}
 use Rattle.symbol_index.specs.Index.{listed}
 use Rattle.symbol_index.proofs.order.by_names.Given as goal
 
--- the symbols so far and those that are left are all symbols
+-- the symbols so far
 abbrev pub invariant-loop-name : goal.invariant-loop-name
-invariant-loop-name l = map listed l.lines.items ++ l.name-iterator ≡ l.fn.table.symbols
+invariant-loop-name l = map listed l.lines.items ≡ take l.name-index l.all
