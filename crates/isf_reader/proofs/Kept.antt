@@ -17,9 +17,9 @@ use Rattle.isf_reader.specs.Enums.{by_value, values_onto, constant_at, constants
 use Rattle.isf_reader.specs.Json.{given, if_count, natural_of, count_of, count_at, text_at, flag_at, integer_of}
 use Rattle.isf_reader.specs.Sections.{and_behind, entries_onto, section_in, section_of}
 use Rattle.isf_reader.specs.Symbols.{symbol_of}
-use Rattle.isf_reader.specs.Table.{Sections, in_section, and_then_read, sections_of, file_of, HasFieldsInOrder, HasConstantsInOrder, HasNamesInOrder, IsNear, HasNearFields, HasBaseSize, HasPointerSize, HasEnumSize, HasUserSize, IsTable, place_of}
+use Rattle.isf_reader.specs.Table.{IsfTable, in_section, and_then_read, sections_of, file_of, HasFieldsInOrder, HasConstantsInOrder, HasNamesInOrder, IsNear, HasNearFields, HasBaseSize, HasPointerSize, HasEnumSize, HasUserSize, IsTable, field_place}
 use Rattle.isf_reader.specs.TypeOf.{type_at}
-use Rattle.isf_reader.specs.UserTypes.{Placed, by_offset, flag_or_false, placed_of, fields_onto, field_at, fields_in, fields_of, user_kind_of, user_of}
+use Rattle.isf_reader.specs.UserTypes.{PlacedField, by_offset, flag_or_false, placed_of, fields_onto, field_at, fields_in, fields_of, user_kind_of, user_of}
 use Rattle.isf_reader.specs.declared.base_type.BaseType.{BaseType}
 use Rattle.isf_reader.specs.declared.enum_type.Constant.{Constant}
 use Rattle.isf_reader.specs.declared.enum_type.EnumType.{EnumType}
@@ -66,15 +66,15 @@ same_some a b h = ap (λ o. unwrap_or o b) h
 
 -- fields
 abbrev AreByOffset : List Field → Type 0
-AreByOffset fields = IsStrictlySortedBy by_offset (map place_of fields)
+AreByOffset fields = IsStrictlySortedBy by_offset (map field_place fields)
 
-placed_in_order : (ms : Members) (found : List Placed) (all : List Placed) → fields_onto found ms ≡ Some all → IsStrictlySortedBy by_offset (keys_of found) → IsStrictlySortedBy by_offset (keys_of all)
+placed_in_order : (ms : Members) (found : List PlacedField) (all : List PlacedField) → fields_onto found ms ≡ Some all → IsStrictlySortedBy by_offset (keys_of found) → IsStrictlySortedBy by_offset (keys_of all)
 placed_in_order no_members found all h sorted = subst (λ es. IsStrictlySortedBy by_offset (keys_of es)) (same_some found all h) sorted
 placed_in_order (member name d ms) found all h sorted =
     let p = found_before (placed_of name d) (λ p. fields_onto (insert_entry by_offset found p.0 p.1) ms) all h in
     placed_in_order ms _ all p.2 (in_order_inserted by_offset by_offset_total found (p.0).0 (p.0).1 sorted)
 
-places_are : (all : List Placed) → map place_of (map field_at all) ≡ keys_of all
+places_are : (all : List PlacedField) → map field_place (map field_at all) ≡ keys_of all
 places_are [] = refl
 places_are (p ∷ all) = ap (λ places. p.0 ∷ places) (places_are all)
 
@@ -102,7 +102,7 @@ user_in_order d user h =
 abbrev AreNear : List Field → Type 0
 AreNear = AllByRecursion IsNear
 
-abbrev IsNearPlaced : Placed → Type 0
+abbrev IsNearPlaced : PlacedField → Type 0
 IsNearPlaced p = (p.0).0 < 2 ^ 32
 
 counted : (n m : ℕ) → if_count n ≡ Some m → m < 2 ^ 32
@@ -118,20 +118,20 @@ counted_at key d m h =
     let number = found_before (natural_of value.0) if_count m value.2 in
     counted number.0 m number.2
 
-near_placed : (name : List ℕ) (d : Data) (p : Placed) → placed_of name d ≡ Some p → IsNearPlaced p
+near_placed : (name : List ℕ) (d : Data) (p : PlacedField) → placed_of name d ≡ Some p → IsNearPlaced p
 near_placed name d p h =
     let offset = found_before (count_at (codes "offset") d) _ p h in
     let of = found_before (type_at (codes "type") d) _ p offset.2 in
     let anonymous = mapped_before (flag_or_false (given (codes "anonymous") d)) _ p of.2 in
     subst IsNearPlaced anonymous.2 (counted_at (codes "offset") d offset.0 offset.1)
 
-near_onto : (ms : Members) (found : List Placed) (all : List Placed) → fields_onto found ms ≡ Some all → AllByRecursion IsNearPlaced found → AllByRecursion IsNearPlaced all
+near_onto : (ms : Members) (found : List PlacedField) (all : List PlacedField) → fields_onto found ms ≡ Some all → AllByRecursion IsNearPlaced found → AllByRecursion IsNearPlaced all
 near_onto no_members found all h near = subst (AllByRecursion IsNearPlaced) (same_some found all h) near
 near_onto (member name d ms) found all h near =
     let p = found_before (placed_of name d) (λ p. fields_onto (insert_entry by_offset found p.0 p.1) ms) all h in
     near_onto ms _ all p.2 (all_inserted by_offset IsNearPlaced (λ k l v w tied new old. old) found (p.0).0 (p.0).1 near (near_placed name d p.0 p.1))
 
-near_fields : (all : List Placed) → AllByRecursion IsNearPlaced all → AreNear (map field_at all)
+near_fields : (all : List PlacedField) → AllByRecursion IsNearPlaced all → AreNear (map field_at all)
 near_fields [] h = tt
 near_fields (p ∷ all) h = (h.0, near_fields all h.1)
 
@@ -301,7 +301,7 @@ section_before : {E : Type 0} (section : Section) (r : Result (List (List ℕ ×
 section_before section (Ok es) all h = ap Ok (same_ok es all h)
 section_before section (Err fault) all h = cc
 
-sections_kept : (b e u y : Option Data) (s : Sections) → sections_of b e u y ≡ Ok s → first_too_deep s.users ≡ None → IsTable s
+sections_kept : (b e u y : Option Data) (s : IsfTable) → sections_of b e u y ≡ Ok s → first_too_deep s.users ≡ None → IsTable s
 sections_kept b e u y s h shallow =
     let bases = behind_before (in_section _ (section_of base_of b)) _ s h in
     let enums = behind_before (in_section _ (section_of (λ name. enum_of) e)) _ s bases.2 in
@@ -328,7 +328,7 @@ sections_kept b e u y s h shallow =
     }
 
 -- what a file's sections are, where no user type is too deep, is a table
-pub kept : (d : Data) (s : Sections) → file_of d ≡ Ok s → first_too_deep s.users ≡ None → IsTable s
+pub kept : (d : Data) (s : IsfTable) → file_of d ≡ Ok s → first_too_deep s.users ≡ None → IsTable s
 kept null s h shallow = cc
 kept (boolean b) s h shallow = cc
 kept (number n) s h shallow = cc
@@ -336,7 +336,7 @@ kept (string t) s h shallow = cc
 kept (array ds) s h shallow = cc
 kept (object ms) s h shallow = sections_kept (get_member (codes "base_types") ms) (get_member (codes "enums") ms) (get_member (codes "user_types") ms) (get_member (codes "symbols") ms) s h shallow
 
-users_in_order : (b e u y : Option Data) (s : Sections) → sections_of b e u y ≡ Ok s → HasNamesInOrder s.users
+users_in_order : (b e u y : Option Data) (s : IsfTable) → sections_of b e u y ≡ Ok s → HasNamesInOrder s.users
 users_in_order b e u y s h =
     let bases = behind_before (in_section _ (section_of base_of b)) _ s h in
     let enums = behind_before (in_section _ (section_of (λ name. enum_of) e)) _ s bases.2 in
@@ -345,7 +345,7 @@ users_in_order b e u y s h =
     subst (λ t. HasNamesInOrder t.users) (same_ok _ s symbols.2) (names_of (λ name. user_of) u users.0 (section_before _ (section_of (λ name. user_of) u) users.0 users.1))
 
 -- the user types of a file stand in order, however deep they are
-pub users_kept : (d : Data) (s : Sections) → file_of d ≡ Ok s → HasNamesInOrder s.users
+pub users_kept : (d : Data) (s : IsfTable) → file_of d ≡ Ok s → HasNamesInOrder s.users
 users_kept null s h = cc
 users_kept (boolean b) s h = cc
 users_kept (number n) s h = cc

@@ -1,5 +1,5 @@
 -- Who nests one level deeper is found among those who nest so deep.
-use Rattle.std.proofs.Common.{◌≡◌, ℕ, zero, suc, List, [], ◌∷◌, Bool, true, false, ◌||◌, cond, Option, Some, None, option_map, map, filter, find, is_some, refl, sym, ap, ap₂, ◌∙◌, slice_get, add-one, ◌+◌, ◌<◌, length, arith, true≢false}
+use Rattle.std.proofs.Common.{◌≡◌, ℕ, zero, suc, List, [], ◌∷◌, Bool, true, false, ◌||◌, cond, Option, Some, None, option_map, map, filter, find, is_some, refl, sym, ap, ap₂, ◌∙◌, slice_get, add-one, ◌+◌, true≢false}
 use Rattle.std.specs.Cmp.Lexicographic.{slice_cmp, nat_list_cmp_total}
 use Rattle.std.specs.List.{list_any}
 use Rattle.std.specs.Option.{option_map_or, option_and_then}

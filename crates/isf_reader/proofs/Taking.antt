@@ -14,13 +14,13 @@ passed_over Less rest found h = refl
 passed_over Equal rest found h = absurd (true≢false h)
 passed_over Greater rest found h = refl
 
-abbrev Entry : Type 0
-Entry = String Global × Value
+abbrev Member : Type 0
+Member = String Global × Value
 
-abbrev without : List ℕ → List Entry → List Entry
+abbrev without : List ℕ → List Member → List Member
 without name es = remove_entry (is_at (λ key. slice_cmp nat_cmp name (string_bytes key))) es
 
-stays_behind : (name other : List ℕ) → bytes_eq other name ≡ false → (e : Entry) (es : List Entry)
+stays_behind : (name other : List ℕ) → bytes_eq other name ≡ false → (e : Member) (es : List Member)
     → get_member other (members_view (without name es)) ≡ get_member other (members_view es)
     → (b : Bool) → is_eq (slice_cmp nat_cmp name (string_bytes e.0)) ≡ b
     → get_member other (members_view (cond b es (e ∷ without name es))) ≡ get_member other (members_view (e ∷ es))
@@ -30,7 +30,7 @@ stays_behind name other apart e es more true h =
     sym (passed_over (slice_cmp nat_cmp other (string_bytes e.0)) _ _ over)
 stays_behind name other apart e es more false h = ap (λ found. match_ordering (slice_cmp nat_cmp other (string_bytes e.0)) found (Some (view e.1)) found) more
 
-pub others_stay : (name other : List ℕ) → bytes_eq other name ≡ false → (es : List Entry)
+pub others_stay : (name other : List ℕ) → bytes_eq other name ≡ false → (es : List Member)
     → get_member other (members_view (without name es)) ≡ get_member other (members_view es)
 others_stay name other apart [] = refl
 others_stay name other apart (e ∷ es) = stays_behind name other apart e es (others_stay name other apart es) (is_eq (slice_cmp nat_cmp name (string_bytes e.0))) refl

@@ -29,7 +29,7 @@ use Rattle.isf_reader.specs.declared.user_type.Field.{Field}
 use Rattle.isf_reader.specs.declared.user_type.UserType.{UserType}
 
 -- the entries of the four sections, by their names in byte order
-pub record Sections : Type 0 where
+pub record IsfTable : Type 0 where
   pub bases : List (List ℕ × BaseType)
   pub enums : List (List ℕ × EnumType)
   pub users : List (List ℕ × UserType)
@@ -46,7 +46,7 @@ and_then_read (Ok a) behind = behind a
 and_then_read (Err refusal) behind = Err refusal
 
 -- the four sections, each of which may be missing
-abbrev pub sections_of : Option Data → Option Data → Option Data → Option Data → Result Sections IsfRefusal
+abbrev pub sections_of : Option Data → Option Data → Option Data → Option Data → Result IsfTable IsfRefusal
 sections_of bases enums users symbols =
     and_then_read (in_section parts.BaseTypes (section_of base_of bases)) (λ bases.
     and_then_read (in_section parts.Enums (section_of (λ name. enum_of) enums)) (λ enums.
@@ -54,11 +54,11 @@ sections_of bases enums users symbols =
     and_then_read (in_section parts.Symbols (section_of (λ name. symbol_of) symbols)) (λ symbols.
     Ok (record { bases = bases; enums = enums; users = users; symbols = symbols })))))
 
-abbrev pub sections_in : Members → Result Sections IsfRefusal
+abbrev pub sections_in : Members → Result IsfTable IsfRefusal
 sections_in ms = sections_of (get_member (codes "base_types") ms) (get_member (codes "enums") ms) (get_member (codes "user_types") ms) (get_member (codes "symbols") ms)
 
 -- the sections of a file, which is an object
-abbrev pub file_of : Data → Result Sections IsfRefusal
+abbrev pub file_of : Data → Result IsfTable IsfRefusal
 file_of null = Err (BadEntry parts.File [] Whole)
 file_of (boolean b) = Err (BadEntry parts.File [] Whole)
 file_of (number n) = Err (BadEntry parts.File [] Whole)
@@ -67,18 +67,18 @@ file_of (array ds) = Err (BadEntry parts.File [] Whole)
 file_of (object ms) = sections_in ms
 
 -- the sections, unless anonymous fields nest too deep in a user type
-abbrev pub unless_deep : Option (List ℕ) → Sections → Result Sections IsfRefusal
-unless_deep None sections = Ok sections
-unless_deep (Some name) sections = Err (AnonDepth name)
+abbrev pub unless_deep : Option (List ℕ) → IsfTable → Result IsfTable IsfRefusal
+unless_deep None table = Ok table
+unless_deep (Some name) table = Err (AnonDepth name)
 
-abbrev pub depth_checked : Sections → Result Sections IsfRefusal
-depth_checked sections = unless_deep (first_too_deep sections.users) sections
+abbrev pub depth_checked : IsfTable → Result IsfTable IsfRefusal
+depth_checked table = unless_deep (first_too_deep table.users) table
 
 -- the JSON value that bytes are; a text is UTF-8
 abbrev pub tree_of : List ℕ → Option Data
 tree_of json = if is_utf8 json then read json else None
 
-abbrev pub from_tree : Option Data → Result Sections IsfRefusal
+abbrev pub from_tree : Option Data → Result IsfTable IsfRefusal
 from_tree None = Err NotJson
 from_tree (Some d) = and_then_read (file_of d) depth_checked
 
@@ -87,7 +87,7 @@ abbrev pub most_bytes : ℕ
 most_bytes = 2 ^ 27
 
 -- the table that a symbol file is, or why it is refused
-unfoldable pub table_of : List ℕ → Result Sections IsfRefusal
+unfoldable pub table_of : List ℕ → Result IsfTable IsfRefusal
 table_of json = if nat_lt most_bytes (length json) then Err (TooLarge (length json)) else from_tree (tree_of json)
 
 -- a refusal is the definition's, unless memory ran out
@@ -99,11 +99,11 @@ RefusesAs wanted (AnonDepth name) = wanted ≡ Err (AnonDepth name)
 RefusesAs wanted Memory = Unit {0}
 
 -- fields stand by offset, and then by name
-abbrev pub place_of : Field → ℕ × List ℕ
-place_of field = (field.offset, field.name)
+abbrev pub field_place : Field → ℕ × List ℕ
+field_place field = (field.offset, field.name)
 
 abbrev pub HasFieldsInOrder : List ℕ × UserType → Type 0
-HasFieldsInOrder entry = IsStrictlySortedBy by_offset (map place_of (entry.1).fields)
+HasFieldsInOrder entry = IsStrictlySortedBy by_offset (map field_place (entry.1).fields)
 
 -- offsets are counts
 abbrev pub IsNear : Field → Type 0
@@ -135,16 +135,16 @@ abbrev pub HasNamesInOrder : {E : Type 0} → List (List ℕ × E) → Type 0
 HasNamesInOrder entries = IsStrictlySortedBy (slice_cmp nat_cmp) (keys_of entries)
 
 -- what every table keeps
-pub record IsTable (sections : Sections) : Type 0 where
-  pub bases : HasNamesInOrder sections.bases
-  pub enums : HasNamesInOrder sections.enums
-  pub users : HasNamesInOrder sections.users
-  pub symbols : HasNamesInOrder sections.symbols
-  pub shallow : first_too_deep sections.users ≡ None
-  pub fields : AllByRecursion HasFieldsInOrder sections.users
-  pub offsets : AllByRecursion HasNearFields sections.users
-  pub base_sizes : AllByRecursion HasBaseSize sections.bases
-  pub pointer : HasPointerSize sections.bases
-  pub enum_sizes : AllByRecursion HasEnumSize sections.enums
-  pub user_sizes : AllByRecursion HasUserSize sections.users
-  pub constants : AllByRecursion HasConstantsInOrder sections.enums
+pub record IsTable (table : IsfTable) : Type 0 where
+  pub bases : HasNamesInOrder table.bases
+  pub enums : HasNamesInOrder table.enums
+  pub users : HasNamesInOrder table.users
+  pub symbols : HasNamesInOrder table.symbols
+  pub shallow : first_too_deep table.users ≡ None
+  pub fields : AllByRecursion HasFieldsInOrder table.users
+  pub offsets : AllByRecursion HasNearFields table.users
+  pub base_sizes : AllByRecursion HasBaseSize table.bases
+  pub pointer : HasPointerSize table.bases
+  pub enum_sizes : AllByRecursion HasEnumSize table.enums
+  pub user_sizes : AllByRecursion HasUserSize table.users
+  pub constants : AllByRecursion HasConstantsInOrder table.enums

@@ -37,24 +37,24 @@ flag_or_false None = Some false
 flag_or_false (Some d) = as_bool d
 
 -- a field's place among the fields, and what stands there
-abbrev pub Placed : Type 0
-Placed = (ℕ × List ℕ) × (TypeRef × Bool)
+abbrev pub PlacedField : Type 0
+PlacedField = (ℕ × List ℕ) × (TypeRef × Bool)
 
 -- fields stand by offset, and then by name in byte order
 abbrev pub by_offset : ℕ × List ℕ → ℕ × List ℕ → Ordering
 by_offset a b = ordering_then (nat_cmp a.0 b.0) (slice_cmp nat_cmp a.1 b.1)
 
 -- the field of that name
-abbrev pub placed_of : List ℕ → Data → Option Placed
+abbrev pub placed_of : List ℕ → Data → Option PlacedField
 placed_of name d =
     option_and_then (λ offset. option_and_then (λ of. option_map (λ anonymous. ((offset, name), (of, anonymous))) (flag_or_false (given (codes "anonymous") d))) (type_at (codes "type") d)) (count_at (codes "offset") d)
 
 -- the fields that these members are beside those found so far
-abbrev pub fields_onto : List Placed → Members → Option (List Placed)
+abbrev pub fields_onto : List PlacedField → Members → Option (List PlacedField)
 fields_onto found no_members = Some found
 fields_onto found (member name d ms) = option_and_then (λ p. fields_onto (insert_entry by_offset found p.0 p.1) ms) (placed_of name d)
 
-abbrev pub field_at : Placed → Field
+abbrev pub field_at : PlacedField → Field
 field_at p = record { name = (p.0).1; offset = (p.0).0; of = (p.1).0; anonymous = (p.1).1 }
 
 abbrev pub fields_in : Members → Option (List Field)

@@ -5,7 +5,7 @@ ghost use Rattle.isf_reader.specs.BaseTypes.{base_kind_of, big_of, size_fits, ba
 
 use crate::Key;
 use crate::json::{count_at, flag_at, text_at};
-use crate::section::Entry;
+use crate::section::SectionEntry;
 use serde_json::Value;
 use std::alloc::{AllocError, Global};
 
@@ -91,7 +91,7 @@ fn base_of(name: &[u8], entry: &Value) -> Result<BaseType, Key>
     })
 }
 
-impl Entry for BaseType {
+impl SectionEntry for BaseType {
     ghost reads = { base_of };
 
     fn read(

@@ -6,7 +6,7 @@ ghost use Rattle.isf_reader.specs.Enums.{by_value, constant_at, values_onto, con
 
 use crate::Key;
 use crate::json::{count_at, integer_of, taken_given, text_at};
-use crate::section::Entry;
+use crate::section::SectionEntry;
 use layer_base::Name;
 use serde_json::{Map, Value};
 use std::alloc::{AllocError, Global};
@@ -152,7 +152,7 @@ fn enum_of(alloc: Global, mut entry: Value) -> Result<Result<EnumType, Key>, All
     }))
 }
 
-impl Entry for EnumType {
+impl SectionEntry for EnumType {
     ghost reads = { λ name. enum_of };
 
     fn read(

@@ -2,11 +2,11 @@
 ghost use Rattle.std.specs.Prelude.{◌≡◌, ◌⊎◌, ℕ, List, false, Some, None, Ok, option_map, bytes_eq, IfOk, IfErr, codes};
 ghost use Rattle.serde_json.specs.Find.{get_member};
 ghost use Rattle.serde_json.specs.View.{view, members_view};
-ghost use Rattle.isf_reader.specs.Lists.{sections_view};
+ghost use Rattle.isf_reader.specs.Lists.{table_view};
 ghost use Rattle.isf_reader.specs.Sections.{section_of};
 ghost use Rattle.isf_reader.specs.Table.{in_section, sections_of, file_of, tree_of, RefusesAs};
 
-use crate::section::{Entry, Fault, section_of};
+use crate::section::{Fault, SectionEntry, section_of};
 use crate::{BaseType, EnumType, IsfRefusal, Key, Section, Symbol, UserType};
 use layer_base::Name;
 use serde_json::{Map, Value};
@@ -59,7 +59,7 @@ pub(crate) struct Lists {
 }
 
 // The entries of a section. A fault is told with the section.
-fn in_section<E: Entry>(
+fn in_section<E: SectionEntry>(
     alloc: Global,
     section: Section,
     value: Option<Value>,
@@ -77,7 +77,7 @@ fn in_section<E: Entry>(
 // The entries of the four sections, read in this order.
 fn lists_of(alloc: Global, parts: Parts) -> Result<Lists, IsfRefusal>
     ensures ok { IfOk result (λ lists. sections_of (option_map view parts.bases) (option_map view parts.enums) (option_map view parts.users) (option_map view parts.symbols)
-        ≡ Ok (sections_view lists)) }
+        ≡ Ok (table_view lists)) }
     ensures err { IfErr result (RefusesAs
         (sections_of (option_map view parts.bases) (option_map view parts.enums) (option_map view parts.users) (option_map view parts.symbols))) }
 {
@@ -101,7 +101,7 @@ fn lists_of(alloc: Global, parts: Parts) -> Result<Lists, IsfRefusal>
 
 // The entries of a file.
 pub(crate) fn file_of(alloc: Global, root: Value) -> Result<Lists, IsfRefusal>
-    ensures ok { IfOk result (λ lists. file_of (view root) ≡ Ok (sections_view lists)) }
+    ensures ok { IfOk result (λ lists. file_of (view root) ≡ Ok (table_view lists)) }
     ensures err { IfErr result (RefusesAs (file_of (view root))) }
 {
     match root {

@@ -12,7 +12,7 @@ use serde_json::{Map, Value};
 use std::alloc::{AllocError, Global};
 
 // What a section has entries of.
-pub(crate) trait Entry: Drop + Sized {
+pub(crate) trait SectionEntry: Drop + Sized {
     ghost reads: { List ℕ → Data → Result Self Key };
 
     // Reads the entry of that name, or gives its first key at fault.
@@ -28,7 +28,7 @@ pub(crate) struct Fault {
 }
 
 // Reads an entry, which is an object.
-fn entry_of<E: Entry>(
+fn entry_of<E: SectionEntry>(
     alloc: Global,
     name: &[u8],
     entry: Value,
@@ -44,7 +44,7 @@ fn entry_of<E: Entry>(
 
 // The entries that the members of an object are, or the first at fault. The members stand in the order of their names,
 // so each entry goes last.
-fn entries_in<E: Entry>(
+fn entries_in<E: SectionEntry>(
     alloc: Global,
     members: Map<String, Value>,
 ) -> Result<Result<Vec<(Name, E)>, Fault>, AllocError>
@@ -63,7 +63,7 @@ fn entries_in<E: Entry>(
 }
 
 // Reads a section from what stands at its key.
-fn section_in<E: Entry>(
+fn section_in<E: SectionEntry>(
     alloc: Global,
     section: Value,
 ) -> Result<Result<Vec<(Name, E)>, Fault>, AllocError>
@@ -80,7 +80,7 @@ fn section_in<E: Entry>(
 }
 
 // Reads a section, which may be missing, or gives the first of its entries at fault.
-pub(crate) fn section_of<E: Entry>(
+pub(crate) fn section_of<E: SectionEntry>(
     alloc: Global,
     section: Option<Value>,
 ) -> Result<Result<Vec<(Name, E)>, Fault>, AllocError>

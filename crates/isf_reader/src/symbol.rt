@@ -4,7 +4,7 @@ ghost use Rattle.serde_json.specs.View.{view};
 ghost use Rattle.isf_reader.specs.Symbols.{optional_type, decoded, optional_bytes, symbol_of};
 
 use crate::json::{given, natural_at, taken_given};
-use crate::section::Entry;
+use crate::section::SectionEntry;
 use crate::type_of::type_of;
 use crate::{Key, TypeRef};
 use base64::DecodeAllocError;
@@ -77,7 +77,7 @@ fn symbol_of(alloc: Global, mut entry: Value) -> Result<Result<Symbol, Key>, All
     }))
 }
 
-impl Entry for Symbol {
+impl SectionEntry for Symbol {
     ghost reads = { λ name. symbol_of };
 
     fn read(alloc: Global, _name: &[u8], entry: Value) -> Result<Result<Symbol, Key>, AllocError> {

@@ -25,8 +25,8 @@ pub struct Table {
 impl Model for Table {
     ghost use Rattle.std.specs.Prelude.{ℕ, List, refl};
     ghost use Rattle.std.specs.Coded.{code_by, coded_list, coded×, coded_ℕ};
-    ghost use Rattle.isf_reader.specs.Lists.{sections_view};
-    ghost use Rattle.isf_reader.specs.Table.{Sections, IsTable};
+    ghost use Rattle.isf_reader.specs.Lists.{table_view};
+    ghost use Rattle.isf_reader.specs.Table.{IsfTable, IsTable};
     ghost use Rattle.isf_reader.specs.declared.base_type.BaseType.{BaseType};
     ghost use Rattle.isf_reader.specs.declared.enum_type.EnumType.{EnumType};
     ghost use Rattle.isf_reader.specs.declared.symbol.Symbol.{Symbol};
@@ -36,7 +36,7 @@ impl Model for Table {
     ghost use Rattle.isf_reader.specs.contracts.symbol.Symbol as symbol;
     ghost use Rattle.isf_reader.specs.contracts.user_type.UserType as user;
 
-    ghost Value = { Sections };
+    ghost Value = { IsfTable };
 
     ghost coded = { code_by
         (List (List ℕ × BaseType) × (List (List ℕ × EnumType) × (List (List ℕ × UserType) × List (List ℕ × Symbol))))
@@ -47,9 +47,9 @@ impl Model for Table {
         (λ p. record { bases = p.0; enums = (p.1).0; users = ((p.1).1).0; symbols = ((p.1).1).1 })
         (λ _. refl) };
 
-    ghost view = { λ t. sections_view t.lists };
+    ghost view = { λ t. table_view t.lists };
 
-    ghost invariant = { λ t. IsTable (sections_view t.lists) };
+    ghost invariant = { λ t. IsTable (table_view t.lists) };
 }
 
 impl Table {

@@ -4,7 +4,7 @@ ghost use Rattle.serde_json.specs.View.{view, members_view};
 ghost use Rattle.isf_reader.specs.UserTypes.{user_kind_of, flag_or_false, placed_of, fields_onto, field_at, fields_in, fields_of, user_of};
 
 use crate::json::{count_at, given, taken_given, text_at};
-use crate::section::Entry;
+use crate::section::SectionEntry;
 use crate::type_of::type_at;
 use crate::{Key, TypeRef};
 use layer_base::Name;
@@ -111,17 +111,17 @@ fn flag_or_false(value: Option<&Value>) -> Option<bool>
 }
 
 // The place of a field: its offset and its name.
-type Place = (u64, Name);
+type FieldPlace = (u64, Name);
 
 // What stands there: a type, and whether the field is anonymous.
-type Held = (TypeRef, bool);
+type FieldBody = (TypeRef, bool);
 
 // Reads the field of that name. None where one of its keys is at fault.
 fn placed_of(
     alloc: Global,
     name: String,
     mut member: Value,
-) -> Result<Option<(Place, Held)>, AllocError>
+) -> Result<Option<(FieldPlace, FieldBody)>, AllocError>
     ensures { IfOk result (λ placed. placed ≡ placed_of (string_bytes name) (view member)) }
 {
     let Some(offset) = count_at(&member, "offset") else {
@@ -142,21 +142,21 @@ fn placed_of(
 fn placed_in(
     alloc: Global,
     members: Map<String, Value>,
-) -> Result<Option<BTreeMap<Place, Held>>, AllocError>
+) -> Result<Option<BTreeMap<FieldPlace, FieldBody>>, AllocError>
     ensures { IfOk result (λ found. option_map (λ m. m.entries) found ≡ fields_onto [] (members_view members.entries)) }
 {
     let mut found = BTreeMap::new(alloc);
     for (name, member) in members {
-        let Some((place, held)) = placed_of(alloc, name, member)? else {
+        let Some((place, body)) = placed_of(alloc, name, member)? else {
             return Ok(None);
         };
-        found.insert(place, held)?;
+        found.insert(place, body)?;
     }
     Ok(Some(found))
 }
 
 // Fields from what stands at their places.
-fn fields_from(alloc: Global, found: BTreeMap<Place, Held>) -> Result<Fields, AllocError>
+fn fields_from(alloc: Global, found: BTreeMap<FieldPlace, FieldBody>) -> Result<Fields, AllocError>
     ensures { IfOk result (λ fields. fields ≡ map field_at found.entries) }
 {
     let mut fields = Fields {
@@ -212,7 +212,7 @@ fn user_of(alloc: Global, mut entry: Value) -> Result<Result<UserType, Key>, All
     Ok(Ok(UserType { size, kind, fields }))
 }
 
-impl Entry for UserType {
+impl SectionEntry for UserType {
     ghost reads = { λ name. user_of };
 
     fn read(

@@ -6,7 +6,7 @@ use Rattle.layer_base.specs.Known.{Writes}
 use Rattle.layer_base.specs.declared.sink.SinkFault.{SinkFault}
 use Rattle.layer_base.specs.View.{View}
 use Rattle.layer_base.specs.declared.layer.Kind.{Kind}
-use Rattle.isf_reader.specs.Table.{Sections, RefusesAs}
+use Rattle.isf_reader.specs.Table.{IsfTable, RefusesAs}
 use Rattle.isf_reader.specs.declared.refusal.IsfRefusal.{IsfRefusal}
 use Rattle.isf_reader.specs.declared.refusal.IsfRefusal.TheVariants as refusals
 use Rattle.session.specs.Headline.{GavePrefix}
@@ -59,7 +59,7 @@ none-ran says outcome script out dump end no_answer = record {
 }
 
 -- a run that a refused symbol file or running out of memory ended
-pub refused-ran : (says : List ℕ → Said) (memory : AddressSpace) (wanted : Result Sections IsfRefusal) (refusal : IsfRefusal) (script : List ℕ) (out out' dump : Option (List ℕ)) (end : Status)
+pub refused-ran : (says : List ℕ → Said) (memory : AddressSpace) (wanted : Result IsfTable IsfRefusal) (refusal : IsfRefusal) (script : List ℕ) (out out' dump : Option (List ℕ)) (end : Status)
     → RefusesAs wanted refusal → EndsRefused refusal out out' end → RanOver says (table_run memory wanted script) script (Some script) out out' dump dump end
 refused-ran says memory wanted refusals.Memory script out out' dump end refuses ends = rw (ends.0, ends.1) (none-ran says (table_run memory wanted script) script out dump status.Memory (λ answer. answer))
 refused-ran says memory wanted (refusals.TooLarge len) script out out' dump end refuses ends = rw (refuses, ends.2) (line-ended says (symbols_refused (refusals.TooLarge len)) refl refl script out out' dump ends.0 ends.1)

@@ -2,24 +2,24 @@
 use Rattle.std.specs.Prelude.{ℕ, Bool, false, List, [], Result, Ok, Err}
 use Rattle.layer_base.specs.AddressSpace.{AddressSpace}
 use Rattle.layer_base.specs.View.{View, physical}
-use Rattle.isf_reader.specs.Table.{Sections, table_of}
+use Rattle.isf_reader.specs.Table.{IsfTable, table_of}
 use Rattle.isf_reader.specs.declared.refusal.IsfRefusal.{IsfRefusal}
 
 -- the physical memory of an image, the table of a symbol file, and whether there is a file for dumps
 pub record Evidence : Type 0 where
   pub memory : AddressSpace
-  pub table : Sections
+  pub table : IsfTable
   pub has_dump : Bool
 
 -- a memory and a table; no word for a dump is accepted yet
-abbrev pub evidence_at : AddressSpace → Sections → Evidence
+abbrev pub evidence_at : AddressSpace → IsfTable → Evidence
 evidence_at memory table = record { memory = memory; table = table; has_dump = false }
 
-abbrev pub evidence_in : View → Sections → Evidence
+abbrev pub evidence_in : View → IsfTable → Evidence
 evidence_in view table = evidence_at (physical view) table
 
 -- a refused symbol file has no entries
-abbrev pub table_in : Result Sections IsfRefusal → Sections
+abbrev pub table_in : Result IsfTable IsfRefusal → IsfTable
 table_in (Ok table) = table
 table_in (Err refusal) = record { bases = []; enums = []; users = []; symbols = [] }
 

@@ -3,7 +3,7 @@ use Rattle.std.specs.Prelude.{ℕ, if◌then◌else◌, List, [], codes, Result,
 use Rattle.layer_base.specs.AddressSpace.{AddressSpace}
 use Rattle.layer_base.specs.View.{View, physical}
 use Rattle.layer_base.specs.declared.layer.Kind.{Kind}
-use Rattle.isf_reader.specs.Table.{Sections, table_of}
+use Rattle.isf_reader.specs.Table.{IsfTable, table_of}
 use Rattle.isf_reader.specs.declared.refusal.IsfRefusal.{IsfRefusal}
 use Rattle.symbol_texts.specs.Refusal.{symbols_refusal_text}
 use Rattle.session.specs.Evidence.{Evidence, evidence_at, evidence_over}
@@ -47,7 +47,7 @@ symbols_refused refusal = record {
 }
 
 -- the script is run over a memory and the table of a symbol file
-abbrev pub table_run : AddressSpace → Result Sections IsfRefusal → List ℕ → Outcome
+abbrev pub table_run : AddressSpace → Result IsfTable IsfRefusal → List ℕ → Outcome
 table_run memory (Ok table) script = script_run (line_said (evidence_at memory table)) is_quit script
 table_run memory (Err refusal) script = symbols_refused refusal
 

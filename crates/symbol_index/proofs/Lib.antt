@@ -1,4 +1,3 @@
 pub mod Addresses
 pub mod Extremes
-pub mod Names
 pub mod Telling

@@ -5,8 +5,8 @@ use Rattle.std.specs.Option.{option_copied}
 use Rattle.isf_reader.specs.Depth.{entry_named}
 use Rattle.isf_reader.specs.declared.symbol.Symbol.{Symbol}
 use Rattle.isf_reader.specs.declared.type_ref.TypeRef.{TypeRef}
-use Rattle.symbol_index.specs.declared.line.Entry.{Entry}
-use Rattle.symbol_index.specs.declared.line.Line.{Line}
+use Rattle.symbol_index.specs.declared.indexed.FoundSymbol.{FoundSymbol}
+use Rattle.symbol_index.specs.declared.indexed.IndexedSymbol.{IndexedSymbol}
 
 -- what is told of a symbol
 pub record Told : Type 0 where
@@ -25,12 +25,12 @@ abbrev pub told : Named → Told
 told named = record { address = address_of named; name = named.0; of = (named.1).of }
 
 -- what an entry tells
-abbrev pub held : Entry → Told
+abbrev pub held : FoundSymbol → Told
 held entry = record { address = entry.address; name = entry.name.now; of = option_copied entry.of }
 
--- the symbol that a line shows
-abbrev pub listed : Line → Named
-listed line = (line.name.now, line.symbol.now)
+-- the symbol that the index holds
+abbrev pub listed : IndexedSymbol → Named
+listed indexed = (indexed.name.now, indexed.symbol.now)
 
 -- the symbol of a name
 abbrev pub by_name : List ℕ → List Named → Option Told

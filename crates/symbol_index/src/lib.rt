@@ -1,10 +1,10 @@
 //! The symbols of a kernel, by name and by address.
 #![tactic(auto)]
 
-mod line;
+mod indexed;
 mod order;
 mod search;
 mod symbols;
 
-pub use line::Entry;
+pub use indexed::FoundSymbol;
 pub use symbols::Symbols;

@@ -5,7 +5,7 @@ use Rattle.std.specs.List.{flat_map}
 use Rattle.cell_text.specs.TextCell.{text_cell}
 use Rattle.cell_text.specs.TypeCell.{type_cell}
 use Rattle.isf_reader.specs.Depth.{entry_named}
-use Rattle.isf_reader.specs.Table.{Sections}
+use Rattle.isf_reader.specs.Table.{IsfTable}
 use Rattle.isf_reader.specs.declared.base_type.BaseKind.{BaseKind}
 use Rattle.isf_reader.specs.declared.base_type.BaseKind.TheVariants as bases
 use Rattle.isf_reader.specs.declared.base_type.BaseType.{BaseType}
@@ -63,5 +63,5 @@ layout_by name None (Some enumeration) base = enum_text name enumeration
 layout_by name None None (Some base) = base_text name base
 layout_by name None None None = codes "error: no type\n"
 
-abbrev pub layout_text : Sections → List ℕ → List ℕ
+abbrev pub layout_text : IsfTable → List ℕ → List ℕ
 layout_text table name = layout_by name (entry_named name table.users) (entry_named name table.enums) (entry_named name table.bases)

@@ -4,7 +4,7 @@ use Rattle.std.specs.Fmt.{decimal}
 use Rattle.hex_text.specs.DumpRow.{address_cell}
 use Rattle.cell_text.specs.TextCell.{text_cell}
 use Rattle.cell_text.specs.TypeCell.{type_cell}
-use Rattle.isf_reader.specs.Table.{Sections}
+use Rattle.isf_reader.specs.Table.{IsfTable}
 use Rattle.isf_reader.specs.declared.type_ref.TypeRef.{TypeRef}
 use Rattle.symbol_index.specs.Index.{Told, by_name, at_or_before}
 
@@ -25,7 +25,7 @@ abbrev pub symbol_or_none : List ℕ → Option Told → List ℕ
 symbol_or_none name None = no_symbol_text name
 symbol_or_none name (Some symbol) = symbol_row symbol
 
-abbrev pub symbol_text : Sections → List ℕ → List ℕ
+abbrev pub symbol_text : IsfTable → List ℕ → List ℕ
 symbol_text table name = symbol_or_none name (by_name name table.symbols)
 
 -- a symbol's address and name, and how far behind it a number is
@@ -36,5 +36,5 @@ abbrev pub near_or_none : ℕ → Option Told → List ℕ
 near_or_none number None = codes "error: no symbol\n"
 near_or_none number (Some symbol) = near_row number symbol
 
-abbrev pub near_text : Sections → ℕ → List ℕ
+abbrev pub near_text : IsfTable → ℕ → List ℕ
 near_text table number = near_or_none number (at_or_before number table.symbols)

@@ -73,7 +73,7 @@ fn append_words(text: &mut Vec<u8>, refusal: &IsfRefusal) -> Result<(), AllocErr
 
 /// Returns the line that says why a symbol file is refused: `symbols refused: `, the words, and a newline. The words are
 /// `more than 134217728 bytes`, `not json`, the section, the name and the key of the first entry at fault, or `anonymous
-/// depth` and the name of a user type; a name is a text cell, and `-` where it is empty. Sections and keys are those of
+/// depth` and the name of a user type; a name is a text cell, and `-` where it is empty. IsfTable and keys are those of
 /// the ISF schema, and `file` and `whole`; docs/texts.md has each line. `IsfRefusal::Memory` says nothing of the file, and
 /// has no words. The only error is out of memory.
 #[tactic(auto, unfolding(crate::specs::Refusal::symbols_refusal_text))]

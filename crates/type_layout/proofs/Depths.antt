@@ -4,7 +4,7 @@ use Rattle.std.specs.Cmp.Lexicographic.{slice_cmp}
 use Rattle.std.specs.List.{list_any}
 use Rattle.std.specs.Option.{option_or, option_map_or, option_and_then}
 use Rattle.isf_reader.specs.Depth.{entry_named, brings, nests, deepest, first_too_deep}
-use Rattle.isf_reader.specs.Table.{Sections, IsTable}
+use Rattle.isf_reader.specs.Table.{IsfTable, IsTable}
 use Rattle.isf_reader.specs.declared.user_type.Field.{Field}
 use Rattle.isf_reader.specs.declared.user_type.UserType.{UserType}
 use Rattle.type_layout.specs.Member.{Spot, Users, further, user_brought, own_field, first_through, found_in, found, IsSearchedAlike}
@@ -73,6 +73,6 @@ rule_if users name None h = tt
 rule_if users name (Some user) h = sym (no_deeper users name deepest user h)
 
 -- in a table the search goes as deep as anonymous fields nest
-pub searched_alike : (table : Sections) (name : List ℕ) → IsTable table → IsSearchedAlike table.users name
+pub searched_alike : (table : IsfTable) (name : List ℕ) → IsTable table → IsSearchedAlike table.users name
 unfolding first_too_deep found_in
 searched_alike table name h type_name = rule_if table.users name (entry_named type_name table.users) (none_passes (nests table.users (suc deepest)) type_name table.users h.shallow)

@@ -2,7 +2,7 @@
 use Rattle.std.specs.Prelude.{◌≡◌, ℕ, zero, suc, ◌+◌, List, [], ◌∷◌, Option, Some, None, IfSome, find, option_map, option_and_then, ok_or, Result, Err, bytes_eq}
 use Rattle.std.specs.Option.{option_or}
 use Rattle.isf_reader.specs.Depth.{entry_named, brought_in, user_name, deepest}
-use Rattle.isf_reader.specs.Table.{Sections}
+use Rattle.isf_reader.specs.Table.{IsfTable}
 use Rattle.isf_reader.specs.declared.type_ref.TypeRef.{TypeRef}
 use Rattle.isf_reader.specs.declared.user_type.Field.{Field}
 use Rattle.isf_reader.specs.declared.user_type.UserType.{UserType}
@@ -69,14 +69,14 @@ member_in users name None = Err NoType
 member_in users name (Some user) = ok_or (found users name user) NoMember
 
 -- the member of the user type of a name, or its fault
-abbrev pub member_named : Sections → List ℕ → List ℕ → Result Spot TypeFault
+abbrev pub member_named : IsfTable → List ℕ → List ℕ → Result Spot TypeFault
 member_named table user name = member_in table.users name (entry_named user table.users)
 
 -- the member of what a descriptor names, where it is a struct, union or class
-abbrev pub member_of : Sections → List ℕ → Option (List ℕ) → Result Spot TypeFault
+abbrev pub member_of : IsfTable → List ℕ → Option (List ℕ) → Result Spot TypeFault
 member_of table name None = Err NotCompound
 member_of table name (Some user) = member_named table user name
 
 -- the member of a type, or its fault
-abbrev pub member : Sections → TypeRef → List ℕ → Result Spot TypeFault
+abbrev pub member : IsfTable → TypeRef → List ℕ → Result Spot TypeFault
 member table of name = member_of table name (user_name of)

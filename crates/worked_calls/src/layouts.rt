@@ -8,7 +8,7 @@ use std::alloc::{AllocError, Global};
 use type_layout::{PathRefusal, Place, TypeFault, element, member, member_named, resolve, size_of};
 
 fn name_of(alloc: Global, text: &str) -> Result<Name, AllocError> {
-    Ok(Name::from(Vec::from_slice(alloc, text.as_bytes())?))
+    Name::of(alloc, text.as_bytes())
 }
 
 // Prints where a call leads, and the size of what stands there.

@@ -1,4 +1,4 @@
-use Rattle.std.proofs.Common.{◌≡◌, rules, ap, sym, map, slice_index_or, is_some}
+use Rattle.std.proofs.Common.{◌≡◌, rules, ap, sym, is_some}
 use Rattle.std.proofs.lemmas.Fn.{always_returns_same}
 use Rattle.isf_reader.proofs.Search.{stands, there, missed, name_rises, apart}
 use Rattle.isf_reader.proofs.depth.has.Goals as goal

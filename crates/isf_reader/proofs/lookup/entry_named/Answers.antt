@@ -1,4 +1,4 @@
-use Rattle.std.proofs.Common.{◌≡◌, rules, ap, sym, subst, ◌∙◌, Some}
+use Rattle.std.proofs.Common.{◌≡◌, rules, ap, sym, subst, ◌∙◌}
 use Rattle.std.proofs.lemmas.Fn.{always_returns_same}
 use Rattle.isf_reader.proofs.Search.{stands, hit, missed, name_rises, apart, same_entries}
 use Rattle.isf_reader.specs.Depth.{entry_named}

@@ -1,5 +1,5 @@
-use Rattle.std.proofs.Common.{rules, ◌≡◌, [], ◌∷◌, ◌++◌, Ok, string_bytes, string_cmp, refl, sym, ap, ◌∙◌}
-use Rattle.serde_json.specs.View.{view, members_view}
+use Rattle.std.proofs.Common.{rules, ◌≡◌, ◌∷◌, Ok, string_bytes, refl}
+use Rattle.serde_json.specs.View.{view}
 use Rattle.isf_reader.specs.Entry.{entry_of}
 use Rattle.isf_reader.proofs.Named.{names_in_order, names_of, insert_last, names_pushed}
 use Rattle.isf_reader.proofs.section.entries_in.Goals as goal
@@ -14,7 +14,7 @@ loop-name-preserved g c =
     let step : c.loop-name.name-iterator ≡ (c.in-Some.name, c.in-Some.member) ∷ c.next.new.self = search rules in
     let found = c.loop-name.found.items in
     let name = string_bytes c.in-Some.name in
-    let read : entry_of g.E.Entry.reads name (view c.in-Some.member) ≡ Ok c.in-Ok.entry = search rules in
+    let read : entry_of g.E.SectionEntry.reads name (view c.in-Some.member) ≡ Ok c.in-Ok.entry = search rules in
     let spelled : c.from-name.result ≡ name = search rules in
     let order = rw step at c.loop-name.invariant.order in
     let last = insert_last found name c.in-Ok.entry (names_of c.next.new.self) order in

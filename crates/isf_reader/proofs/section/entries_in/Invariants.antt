@@ -8,6 +8,6 @@ use Rattle.isf_reader.proofs.section.entries_in.Given as goal
 
 abbrev pub invariant-loop-name : goal.invariant-loop-name
 invariant-loop-name g l = record {
-  same : entries_onto g.E.Entry.reads l.found.items (members_view l.name-iterator) ≡ entries_onto g.E.Entry.reads [] (members_view l.fn.members.entries);
+  same : entries_onto g.E.SectionEntry.reads l.found.items (members_view l.name-iterator) ≡ entries_onto g.E.SectionEntry.reads [] (members_view l.fn.members.entries);
   order : IsStrictlySortedBy byte_order (keys_of l.found.items ++ map (λ m. string_bytes m.0) l.name-iterator);
 }

@@ -7,7 +7,7 @@ use layer_base::Name;
 
 /// A symbol: its address, its name and its type, where it has one.
 #[derive(Clone, Copy, Debug)]
-pub struct Entry<'s> {
+pub struct FoundSymbol<'s> {
     pub address: u64,
     pub name: &'s [u8],
     pub of: Option<&'s TypeRef>,
@@ -15,19 +15,19 @@ pub struct Entry<'s> {
 
 // A symbol of a table, with its name.
 #[derive(Clone, Copy, Debug)]
-pub(crate) struct Line<'t> {
+pub(crate) struct IndexedSymbol<'t> {
     pub name: &'t Name,
     pub symbol: &'t Symbol,
 }
 
 // What is told of a symbol.
-pub(crate) fn entry_of<'t>(line: Option<Line<'t>>) -> Option<Entry<'t>>
-    ensures { option_map held result ≡ option_map (λ line. told (listed line)) line.entry }
+pub(crate) fn found_symbol<'t>(indexed: Option<IndexedSymbol<'t>>) -> Option<FoundSymbol<'t>>
+    ensures { option_map held result ≡ option_map (λ indexed. told (listed indexed)) indexed.entry }
 {
-    let line = line?;
-    Some(Entry {
-        address: line.symbol.address,
-        name: line.name.items(),
-        of: line.symbol.of.as_ref(),
+    let indexed = indexed?;
+    Some(FoundSymbol {
+        address: indexed.symbol.address,
+        name: indexed.name.items(),
+        of: indexed.symbol.of.as_ref(),
     })
 }
