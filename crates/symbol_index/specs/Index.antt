@@ -5,7 +5,7 @@ use Rattle.std.specs.Option.{option_copied}
 use Rattle.isf_reader.specs.Depth.{entry_named}
 use Rattle.isf_reader.specs.declared.symbol.Symbol.{Symbol}
 use Rattle.isf_reader.specs.declared.type_ref.TypeRef.{TypeRef}
-use Rattle.symbol_index.specs.declared.indexed.FoundSymbol.{FoundSymbol}
+use Rattle.symbol_index.specs.declared.indexed.Entry.{Entry}
 use Rattle.symbol_index.specs.declared.indexed.IndexedSymbol.{IndexedSymbol}
 
 -- what is told of a symbol
@@ -25,7 +25,7 @@ abbrev pub told : Named → Told
 told named = record { address = address_of named; name = named.0; of = (named.1).of }
 
 -- what an entry tells
-abbrev pub held : FoundSymbol → Told
+abbrev pub held : Entry → Told
 held entry = record { address = entry.address; name = entry.name.now; of = option_copied entry.of }
 
 -- the symbol that the index holds

@@ -7,7 +7,7 @@ use layer_base::Name;
 
 /// A symbol: its address, its name and its type, where it has one.
 #[derive(Clone, Copy, Debug)]
-pub struct FoundSymbol<'s> {
+pub struct Entry<'s> {
     pub address: u64,
     pub name: &'s [u8],
     pub of: Option<&'s TypeRef>,
@@ -21,11 +21,11 @@ pub(crate) struct IndexedSymbol<'t> {
 }
 
 // What is told of a symbol.
-pub(crate) fn found_symbol<'t>(indexed: Option<IndexedSymbol<'t>>) -> Option<FoundSymbol<'t>>
+pub(crate) fn entry_of<'t>(indexed: Option<IndexedSymbol<'t>>) -> Option<Entry<'t>>
     ensures { option_map held result ≡ option_map (λ indexed. told (listed indexed)) indexed.entry }
 {
     let indexed = indexed?;
-    Some(FoundSymbol {
+    Some(Entry {
         address: indexed.symbol.address,
         name: indexed.name.items(),
         of: indexed.symbol.of.as_ref(),

@@ -6,5 +6,5 @@ mod order;
 mod search;
 mod symbols;
 
-pub use indexed::FoundSymbol;
+pub use indexed::Entry;
 pub use symbols::Symbols;

@@ -2,7 +2,7 @@
 ghost use Rattle.std.specs.Prelude.{◌≡◌, IfOk, option_map};
 ghost use Rattle.symbol_index.specs.Index.{held, by_name, at_address, next_after, at_or_before};
 
-use crate::indexed::{FoundSymbol, IndexedSymbol, found_symbol};
+use crate::indexed::{Entry, IndexedSymbol, entry_of};
 use crate::order::{by_addresses, by_names};
 use crate::search::{first_at, first_at_nearest, next_after, symbol_named};
 use isf_reader::Table;
@@ -46,17 +46,17 @@ impl<'t> Symbols<'t> {
     }
 
     /// Returns the symbol with a name, or None where no symbol has it.
-    pub fn by_name(&self, name: &[u8]) -> Option<FoundSymbol<'t>>
+    pub fn by_name(&self, name: &[u8]) -> Option<Entry<'t>>
         ensures { option_map held result ≡ by_name name.now self.now }
     {
-        found_symbol(symbol_named(&self.by_name, name))
+        entry_of(symbol_named(&self.by_name, name))
     }
 
     /// Returns the symbol at an address, or None where there is no symbol; ties go to the first name in byte order.
-    pub fn at_address(&self, address: u64) -> Option<FoundSymbol<'t>>
+    pub fn at_address(&self, address: u64) -> Option<Entry<'t>>
         ensures { option_map held result ≡ at_address address self.now }
     {
-        found_symbol(first_at(&self.by_address, address))
+        entry_of(first_at(&self.by_address, address))
     }
 
     /// Returns the least address of a symbol above an address, or None where no symbol is above it.
@@ -68,9 +68,9 @@ impl<'t> Symbols<'t> {
 
     /// Returns the symbol at the greatest address that is at or below an address, or None where no symbol is; ties go
     /// to the first name in byte order.
-    pub fn at_or_before(&self, address: u64) -> Option<FoundSymbol<'t>>
+    pub fn at_or_before(&self, address: u64) -> Option<Entry<'t>>
         ensures { option_map held result ≡ at_or_before address self.now }
     {
-        found_symbol(first_at_nearest(&self.by_address, address))
+        entry_of(first_at_nearest(&self.by_address, address))
     }
 }

@@ -8,7 +8,7 @@ use cell_text::{append_number, append_text, append_type};
 use hex_text::append_address;
 use isf_reader::TypeRef;
 use std::alloc::{AllocError, Global};
-use symbol_index::{FoundSymbol, Symbols};
+use symbol_index::{Entry, Symbols};
 
 fn append_type_or_none(text: &mut Vec<u8>, of: Option<&TypeRef>) -> Result<(), AllocError>
     ensures { OnOk result (text.new.items ≡ text.old.items ++ type_or_none (option_copied of.entry)) }
@@ -20,7 +20,7 @@ fn append_type_or_none(text: &mut Vec<u8>, of: Option<&TypeRef>) -> Result<(), A
 }
 
 #[tactic(auto, unfolding(crate::specs::Symbols::symbol_row))]
-fn symbol_row(alloc: Global, symbol: FoundSymbol<'_>) -> Result<Vec<u8>, AllocError>
+fn symbol_row(alloc: Global, symbol: Entry<'_>) -> Result<Vec<u8>, AllocError>
     ensures { IfOk result (λ row. row.items ≡ symbol_row (held symbol.entry)) }
 {
     let mut row = Vec::new(alloc);
@@ -55,7 +55,7 @@ pub fn symbol_text(alloc: Global, symbols: &Symbols<'_>, name: &[u8]) -> Result<
 }
 
 #[tactic(auto, unfolding(crate::specs::Symbols::near_row))]
-fn near_row(alloc: Global, number: u64, symbol: FoundSymbol<'_>) -> Result<Vec<u8>, AllocError>
+fn near_row(alloc: Global, number: u64, symbol: Entry<'_>) -> Result<Vec<u8>, AllocError>
     ensures { IfOk result (λ row. row.items ≡ near_row number (held symbol.entry)) }
 {
     let mut row = Vec::new(alloc);

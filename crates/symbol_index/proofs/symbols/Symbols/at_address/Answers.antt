@@ -2,4 +2,4 @@ use Rattle.symbol_index.proofs.Telling.{tells_at}
 use Rattle.symbol_index.proofs.symbols.Symbols.at_address.Goals as goal
 
 pub returns : goal.returns
-returns c = rw (c.found_symbol.ensures, c.first_at.ensures, c.deref.ensures.value, ← c.self.view_is) (tells_at c.self.inside.by_name.items c.self.inside.by_address.items c.self.invariant.same c.args.address)
+returns c = rw (c.entry_of.ensures, c.first_at.ensures, c.deref.ensures.value, ← c.self.view_is) (tells_at c.self.inside.by_name.items c.self.inside.by_address.items c.self.invariant.same c.args.address)

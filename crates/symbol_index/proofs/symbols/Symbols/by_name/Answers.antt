@@ -9,4 +9,4 @@ named name None = refl
 named name (Some symbol) = refl
 
 pub returns : goal.returns
-returns c = rw (c.found_symbol.ensures, told_listed c.symbol_named.result, c.symbol_named.ensures, c.deref.ensures.value, ← c.self.view_is) (named c.args.name.now _)
+returns c = rw (c.entry_of.ensures, told_listed c.symbol_named.result, c.symbol_named.ensures, c.deref.ensures.value, ← c.self.view_is) (named c.args.name.now _)
