@@ -1,14 +1,10 @@
 use Rattle.std.proofs.Common.{◌≡◌, ◌+◌, [], ◌∷◌, refl, sym, ◌∙◌, arith}
-use Rattle.std.specs.Prelude.{IfSome}
 use Rattle.std.proofs.lemmas.Option.{IfSome_then}
-use Rattle.layer_base.specs.Known.{AppendsPrefix, Writes}
 use Rattle.layer_base.specs.View.{View}
 use Rattle.session.specs.Evidence.{evidence_in}
-use Rattle.std.specs.Io.KnownBytes.{Appends, Consumes, IsAtEnd}
+use Rattle.std.specs.Io.KnownBytes.{Consumes, IsAtEnd}
 use Rattle.session.specs.Line.{line_said, is_quit}
-use Rattle.session.specs.Said.{text_part, dump_part}
 use Rattle.session.specs.Status.{line_result}
-use Rattle.session.specs.Turn.{turn_part, rest_part}
 use Rattle.session.proofs.Ending.{script-failed, turn-failed, script-ended, script-quit, script-too_long}
 use Rattle.session.proofs.LineClips.{line-clips}
 use Rattle.session.proofs.AtMost.{gave_more}
