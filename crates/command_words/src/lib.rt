@@ -17,6 +17,3 @@ pub use command::{AddrWord, Command, SpaceWord};
 pub use fault::LineFault;
 pub use line::parse_line;
 pub use names::Names;
-
-#[cfg(test)]
-mod tests;

@@ -6,8 +6,3 @@ mod memory;
 mod through;
 
 pub use memory::{Got, Memory, NoMemory};
-
-#[cfg(test)]
-mod test_layer;
-#[cfg(test)]
-mod tests;

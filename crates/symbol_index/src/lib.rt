@@ -8,6 +8,3 @@ mod symbols;
 
 pub use line::Entry;
 pub use symbols::Symbols;
-
-#[cfg(test)]
-mod tests;

@@ -1,3 +1,3 @@
 pub mod Depths
-pub mod Near
+pub mod Entries
 pub mod Search

@@ -1,3 +1,4 @@
+pub mod Element
 pub mod Member
 pub mod Path
 pub mod Size

@@ -1,5 +1,5 @@
 //! Sizes of types.
-ghost use Rattle.std.specs.Prelude.{◌≡◌};
+ghost use Rattle.std.specs.Prelude.{◌≡◌, ◌^◌, ◌<◌, IfOk};
 ghost use Rattle.type_layout.specs.Size.{base_size, enum_size, user_size, pointer_size, times, size_of};
 
 use crate::TypeFault;
@@ -9,7 +9,8 @@ const LARGEST: u64 = (1 << 63) - 1;
 
 // The size of the base type of that name.
 fn base_size(table: &Table, name: &[u8]) -> Result<u64, TypeFault>
-    ensures { result ≡ base_size table.now name.now }
+    ensures value { result ≡ base_size table.now name.now }
+    ensures bound { IfOk result (λ size. size < 2 ^ 32) }
 {
     match table.base(name) {
         Some(base) => Ok(base.size),
@@ -19,7 +20,8 @@ fn base_size(table: &Table, name: &[u8]) -> Result<u64, TypeFault>
 
 // The size of the enum of that name.
 fn enum_size(table: &Table, name: &[u8]) -> Result<u64, TypeFault>
-    ensures { result ≡ enum_size table.now name.now }
+    ensures value { result ≡ enum_size table.now name.now }
+    ensures bound { IfOk result (λ size. size < 2 ^ 32) }
 {
     match table.enumeration(name) {
         Some(enumeration) => Ok(enumeration.size),
@@ -29,7 +31,8 @@ fn enum_size(table: &Table, name: &[u8]) -> Result<u64, TypeFault>
 
 // The size of the user type of that name.
 fn user_size(table: &Table, name: &[u8]) -> Result<u64, TypeFault>
-    ensures { result ≡ user_size table.now name.now }
+    ensures value { result ≡ user_size table.now name.now }
+    ensures bound { IfOk result (λ size. size < 2 ^ 32) }
 {
     match table.user(name) {
         Some(user) => Ok(user.size),
@@ -39,7 +42,8 @@ fn user_size(table: &Table, name: &[u8]) -> Result<u64, TypeFault>
 
 // The size of a pointer.
 fn pointer_size(table: &Table) -> u64
-    ensures { result ≡ pointer_size table.now }
+    ensures value { result ≡ pointer_size table.now }
+    ensures bound { result < 2 ^ 32 }
 {
     match table.base(b"pointer") {
         Some(base) => base.size,
@@ -49,7 +53,8 @@ fn pointer_size(table: &Table) -> u64
 
 // The size of so many elements.
 fn times(count: u64, size: u64) -> Result<u64, TypeFault>
-    ensures { result ≡ times count size }
+    ensures value { result ≡ times count size }
+    ensures bound { IfOk result (λ size. size < 2 ^ 63) }
 {
     match count.checked_mul(size) {
         Some(total) if total <= LARGEST => Ok(total),
@@ -62,7 +67,8 @@ fn times(count: u64, size: u64) -> Result<u64, TypeFault>
 /// its type, and a function 0. Errors: `NoType` where nothing defines a name, and `TooBig` where an array has more than
 /// 2^63 - 1 bytes.
 pub fn size_of(table: &Table, of: &TypeRef) -> Result<u64, TypeFault>
-    ensures { result ≡ size_of table.now of.now }
+    ensures value { result ≡ size_of table.now of.now }
+    ensures bound { IfOk result (λ size. size < 2 ^ 63) }
 {
     match of {
         TypeRef::Base(name) => base_size(table, name.items()),

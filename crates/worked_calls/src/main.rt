@@ -1,0 +1,21 @@
+//! Calls that no command of a script reaches yet, each printed with its answer.
+#![tactic(auto)]
+
+mod layouts;
+mod memory;
+mod symbols;
+mod tables;
+mod words;
+
+use crate::layouts::print_layouts;
+use crate::memory::print_memory;
+use crate::symbols::print_symbols;
+use crate::words::print_commands;
+use anyhow::Result;
+
+fn main(rt: HostRuntime) -> Result<()> {
+    print_commands(&rt)?;
+    print_symbols(&rt)?;
+    print_layouts(&rt)?;
+    print_memory(&rt)
+}
