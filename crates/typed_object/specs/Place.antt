@@ -2,6 +2,7 @@
 use Rattle.std.specs.Prelude.{ℕ, ◌+◌, ◌^◌, List, nat_lt, if◌then◌else◌, Result, Ok, Err}
 use Rattle.isf_reader.specs.Table.{Sections}
 use Rattle.isf_reader.specs.declared.type_ref.TypeRef.{TypeRef}
+use Rattle.type_layout.specs.Element.{element}
 use Rattle.type_layout.specs.Member.{Spot, member}
 use Rattle.type_layout.specs.declared.fault.TypeFault.{TypeFault}
 use Rattle.type_layout.specs.declared.fault.TypeFault.TheVariants.{PastEnd}
@@ -23,3 +24,7 @@ placed_if at (Err fault) = Err fault
 -- where the member of a name stands
 abbrev pub member_at : Sections → ℕ → TypeRef → List ℕ → Result Spot TypeFault
 member_at table at of name = placed_if at (member table of name)
+
+-- where the element of an index stands
+abbrev pub element_at : Sections → ℕ → TypeRef → ℕ → Result Spot TypeFault
+element_at table at of index = placed_if at (element table of index)

@@ -9,7 +9,7 @@ ghost use Rattle.type_layout.specs.Member.{spot};
 ghost use Rattle.typed_object.specs.Answers.{AnswersAs, TextAnswersAs, IsWithin, IsTextWithin};
 ghost use Rattle.typed_object.specs.Form.{number_form};
 ghost use Rattle.typed_object.specs.Number.{number};
-ghost use Rattle.typed_object.specs.Place.{seen, placed, member_at};
+ghost use Rattle.typed_object.specs.Place.{seen, placed, member_at, element_at};
 ghost use Rattle.typed_object.specs.Target.{target};
 ghost use Rattle.typed_object.specs.Text.{characters, text};
 ghost use Rattle.typed_object.specs.Value.{value};
@@ -26,7 +26,7 @@ use layer_base::{Layer, Name, Number, Space, Steps};
 use space_memory::Memory;
 use std::alloc::Global;
 use std::sync::ledger::Ledger;
-use type_layout::{Place, TypeFault, member};
+use type_layout::{Place, TypeFault, element, member};
 
 /// An object in memory: a space of addresses, the object's address and its type.
 #[derive(Clone, Copy, Debug)]
@@ -57,6 +57,14 @@ impl<'t> View<'t> {
         ensures space { IfOk result (λ view. view.space ≡ self.entry.space) }
     {
         self.at_place(member(table, self.of, name)?)
+    }
+
+    /// The element of that index. Errors: those of `type_layout::element`, else `PastEnd` where its place is above 2^64 - 1.
+    pub fn element(self, table: &'t Table, index: u64) -> Result<View<'t>, TypeFault>
+        ensures place { result_map_both seen (λ fault. fault) result ≡ element_at table.now self.entry.at self.entry.of.now index }
+        ensures space { IfOk result (λ view. view.space ≡ self.entry.space) }
+    {
+        self.at_place(element(table, self.of, index)?)
     }
 
     /// The number of the object. A fault of the type comes before any reading: `NotNumber`, `NoType`, and `TooBig` for a
