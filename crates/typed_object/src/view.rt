@@ -1,8 +1,9 @@
 //! Views: places in memory, with the types that stand there.
-ghost use Rattle.std.specs.Prelude.{◌≡◌, ◌≤◌, Ok, Err, IfSome, IfOk, IfErr, IsErrOf};
+ghost use Rattle.std.specs.Prelude.{◌≡◌, ◌≤◌, Ok, Err, IfSome, IfOk, IfErr, IfNone, IsErrOf};
 ghost use Rattle.std.specs.Result.{result_map_both};
 ghost use Rattle.layer_base.specs.Counts.{HasCause};
 ghost use Rattle.layer_base.specs.View.{physical};
+ghost use Rattle.isf_reader.specs.declared.type_ref.TypeRef.{out-TypeRef};
 ghost use Rattle.space_memory.specs.InSpace.{in_space};
 ghost use Rattle.space_memory.specs.State.{IsSameMemory};
 ghost use Rattle.type_layout.specs.Member.{spot};
@@ -10,7 +11,7 @@ ghost use Rattle.typed_object.specs.Answers.{AnswersAs, TextAnswersAs, IsWithin,
 ghost use Rattle.typed_object.specs.Form.{number_form};
 ghost use Rattle.typed_object.specs.Number.{number};
 ghost use Rattle.typed_object.specs.Place.{seen, placed, member_at, element_at};
-ghost use Rattle.typed_object.specs.Target.{target};
+ghost use Rattle.typed_object.specs.Target.{pointee, target};
 ghost use Rattle.typed_object.specs.Text.{characters, text};
 ghost use Rattle.typed_object.specs.Value.{value};
 
@@ -101,6 +102,7 @@ impl<'t> View<'t> {
         ensures target { IfSome memory.old.view (λ told.
             AnswersAs (target (in_space (physical told) self.entry.space) table.now self.entry.at self.entry.of.now) (result_map_both seen (λ fault. fault) result)) }
         ensures space { IfOk result (λ view. view.space ≡ self.entry.space) }
+        ensures not_pointer { IfErr (pointee (out-TypeRef self.entry.of.now)) (IsErrOf result) }
         ensures within { IfOk (number_form table.now self.entry.of.now) (λ form. IfErr result (IsWithin self.entry.at form.size)) }
         ensures memory { IsSameMemory memory.old memory.new }
         ensures cause { HasCause memory.old.faults memory.new.faults (IsErrOf result ObjectFault.Device) }
@@ -128,6 +130,7 @@ impl<'t> View<'t> {
     ) -> Result<Name, TextFault>
         ensures text { IfSome memory.old.view (λ told.
             TextAnswersAs (text (in_space (physical told) self.entry.space) table.now self.entry.at self.entry.of.now) result) }
+        ensures not_array { IfNone (characters table.now self.entry.of.now) (IsErrOf result (TextFault.Object (ObjectFault.Fault TypeFault.NotArray))) }
         ensures within { IfSome (characters table.now self.entry.of.now) (λ count. IfErr result (IsTextWithin self.entry.at count)) }
         ensures memory { IsSameMemory memory.old memory.new }
         ensures cause { HasCause memory.old.faults memory.new.faults (IsErrOf result (TextFault.Object ObjectFault.Device)) }
