@@ -45,10 +45,7 @@ fn pointer_size(table: &Table) -> u64
     ensures value { result ≡ pointer_size table.now }
     ensures bound { result < 2 ^ 32 }
 {
-    match table.base(b"pointer") {
-        Some(base) => base.size,
-        None => 8,
-    }
+    base_size(table, b"pointer").unwrap_or(8)
 }
 
 // The size of so many elements.
