@@ -1,5 +1,5 @@
 -- The text of characters, as it comes together from one run of a memory after another.
-use Rattle.std.proofs.Common.{◌≡◌, ◌≢◌, ℕ, zero, suc, ◌+◌, ◌-◌, ◌^◌, ◌<◌, ◌≤◌, Bool, true, false, cond, eqb, List, [], ◌∷◌, ◌++◌, length, map, take, None, Some, Result, Ok, Err, refl, sym, ap, ◌∙◌, append_assoc, arith, length-take, length-append}
+use Rattle.std.proofs.Common.{◌≡◌, ◌≢◌, ℕ, zero, suc, ◌+◌, ◌-◌, ◌^◌, ◌<◌, ◌≤◌, Bool, true, false, cond, eqb, List, [], ◌∷◌, ◌++◌, length, map, take, None, Some, Result, Ok, Err, refl, sym, ap, ◌∙◌, append_assoc, arith, length-take}
 use Rattle.std.specs.Prelude.{slice_index, nat_lt}
 use Rattle.std.proofs.lemmas.Bool.Decides.{nat_tests}
 use Rattle.std.proofs.lemmas.List.{append-nil, take-append-le}
@@ -15,7 +15,7 @@ put_before-nothing : (text : Result (List ℕ) ObjectFault) → put_before [] te
 put_before-nothing (Ok bytes) = refl
 put_before-nothing (Err fault) = refl
 
-pub put_before-twice : (front more : List ℕ) (text : Result (List ℕ) ObjectFault) → put_before front (put_before more text) ≡ put_before (front ++ more) text
+put_before-twice : (front more : List ℕ) (text : Result (List ℕ) ObjectFault) → put_before front (put_before more text) ≡ put_before (front ++ more) text
 put_before-twice front more (Ok bytes) = ap (λ (l : List ℕ). Ok l) (sym (append_assoc front more bytes))
 put_before-twice front more (Err fault) = refl
 
@@ -97,13 +97,6 @@ run-adds memory at missing count old new buf rest ended within fits read taken =
 abbrev pub IsText : AddressSpace → ℕ → ℕ → List ℕ → Type 0
 IsText memory at count front = text_from memory at count ≡ put_before front (text_from memory (at + length front) (count - length front))
 
--- none are the front of every text
-pub IsText-nothing : (memory : AddressSpace) (at count : ℕ) → IsText memory at count []
-IsText-nothing memory at count =
-    let here : at ≡ at + 0 = omega arith in
-    let all : count ≡ count - 0 = omega arith in
-    sym (put_before-nothing (text_from memory at count)) ∙ (λ i. put_before [] (text_from memory (here i) (all i)))
-
 module _ (memory : AddressSpace) (at count : ℕ) (front : List ℕ) (so_far : IsText memory at count front) where
   -- the text is whole where nothing is left
   pub text_from-whole : count ≤ length front → text_from memory at count ≡ Ok front
@@ -116,17 +109,3 @@ module _ (memory : AddressSpace) (at count : ℕ) (front : List ℕ) (so_far : I
   -- a fault of what is left is the text's
   pub text_from-fault : (fault : ObjectFault) → text_from memory (at + length front) (count - length front) ≡ Err fault → text_from memory at count ≡ Err fault
   text_from-fault fault is = so_far ∙ ap (put_before front) is
-
-  -- a run ends the text
-  pub text_from-ended : (new : List ℕ) → AddsText memory (at + length front) (count - length front) front new true → text_from memory at count ≡ Ok new
-  text_from-ended new added = so_far ∙ ap (put_before front) added.2 ∙ ap (λ (l : List ℕ). Ok l) (sym added.1)
-
-  -- or the text goes on behind it
-  pub IsText-more : (new : List ℕ) → AddsText memory (at + length front) (count - length front) front new false → IsText memory at count new
-  IsText-more new added =
-      let piece = added.0 in
-      let size : length new ≡ length front + length piece = ap length added.1 ∙ length-append front piece in
-      let place : at + length front + length piece ≡ at + length new = omega (arith, size) in
-      let left : count - length front - length piece ≡ count - length new = omega (arith, size) in
-      so_far ∙ ap (put_before front) added.2 ∙ put_before-twice front piece (text_from memory (at + length front + length piece) (count - length front - length piece))
-      ∙ (λ i. put_before (sym added.1 i) (text_from memory (place i) (left i)))
