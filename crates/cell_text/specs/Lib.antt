@@ -1,2 +1,3 @@
 pub mod TextCell
 pub mod TypeCell
+pub mod ValueCell

@@ -6,6 +6,7 @@ pub mod Known
 pub mod Lime
 pub mod Mapped
 pub mod Memory
+pub mod Number
 pub mod Present
 pub mod Ranges
 pub mod Reading
