@@ -1,0 +1,4 @@
+pub mod Hits
+pub mod Occurs
+pub mod Telling
+pub mod Windows

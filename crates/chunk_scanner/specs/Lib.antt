@@ -1,0 +1,5 @@
+pub mod Filled
+pub mod Hits
+pub mod Position
+pub mod State
+pub mod Turn
