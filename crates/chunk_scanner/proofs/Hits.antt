@@ -56,35 +56,35 @@ module _ (memory : AddressSpace) (needles : List (List ℕ)) where
 
   -- ---- hits at several addresses
 
-  pub hits_from-none : (number at : ℕ) → hits_from memory needles number at 0 ≡ []
+  pub hits_from-none : (number at : ℕ) → hits_from memory needles at number 0 ≡ []
   unfolding hits_from
   hits_from-none number at = refl
 
-  hits_from-next : (number at n : ℕ) → hits_from memory needles number at (suc n) ≡ hits_at memory needles at number (length needles - number) ++ hits_from memory needles 0 (at + 1) n
+  hits_from-next : (number at n : ℕ) → hits_from memory needles at number (suc n) ≡ hits_at memory needles at number (length needles - number) ++ hits_from memory needles (at + 1) 0 n
   unfolding hits_from
   hits_from-next number at n = refl
 
   -- an address at which no needle occurs is passed
-  hits_from-after : (number at n : ℕ) → ((k : ℕ) → number ≤ k → k < length needles → IsMissing k at) → hits_from memory needles number at (suc n) ≡ hits_from memory needles 0 (at + 1) n
-  hits_from-after number at n missing = hits_from-next number at n ∙ ap (λ l. l ++ hits_from memory needles 0 (at + 1) n) (hits_at-empty at number missing)
+  hits_from-after : (number at n : ℕ) → ((k : ℕ) → number ≤ k → k < length needles → IsMissing k at) → hits_from memory needles at number (suc n) ≡ hits_from memory needles (at + 1) 0 n
+  hits_from-after number at n missing = hits_from-next number at n ∙ ap (λ l. l ++ hits_from memory needles (at + 1) 0 n) (hits_at-empty at number missing)
 
   -- and so are several
-  pub hits_from-passed : (m number at n : ℕ) → ((place k : ℕ) → place < suc m → k < length needles → (place ≡ 0 → number ≤ k) → IsMissing k (at + place)) → hits_from memory needles number at (suc m + n) ≡ hits_from memory needles 0 (at + suc m) n
+  pub hits_from-passed : (m number at n : ℕ) → ((place k : ℕ) → place < suc m → k < length needles → (place ≡ 0 → number ≤ k) → IsMissing k (at + place)) → hits_from memory needles at number (suc m + n) ≡ hits_from memory needles (at + suc m) 0 n
   hits_from-passed zero number at n missing =
       let one : 1 + n ≡ suc n = omega arith in
-      ap (hits_from memory needles number at) one ∙ hits_from-after number at n (λ k above inside. let same : at + 0 ≡ at = omega arith in rw same at (missing 0 k (omega arith) inside (λ none. above)))
+      ap (hits_from memory needles at number) one ∙ hits_from-after number at n (λ k above inside. let same : at + 0 ≡ at = omega arith in rw same at (missing 0 k (omega arith) inside (λ none. above)))
   hits_from-passed (suc m) number at n missing =
       let more : suc (suc m) + n ≡ suc (suc m + n) = omega arith in
       let there : at + 1 + suc m ≡ at + suc (suc m) = omega arith in
-      ap (hits_from memory needles number at) more
+      ap (hits_from memory needles at number) more
       ∙ hits_from-after number at (suc m + n) (λ k above inside. let same : at + 0 ≡ at = omega arith in rw same at (missing 0 k (omega arith) inside (λ none. above)))
       ∙ hits_from-passed m 0 (at + 1) n (λ place k below inside above. let next : at + 1 + place ≡ at + suc place = omega arith in rw next (missing (suc place) k (omega arith) inside (λ none. absurd (omega arith))))
-      ∙ ap (λ a. hits_from memory needles 0 a n) there
+      ∙ ap (λ a. hits_from memory needles a 0 n) there
 
   -- the first hit is the head
   pub hits_from-first : (number at n k : ℕ) → number ≤ k → k < length needles → ((j : ℕ) → number ≤ j → j < k → IsMissing j at) → occurs memory at (slice_index_or needles k []) ≡ true
-      → hits_from memory needles number at (suc n) ≡ record { at = at; needle = k } ∷ hits_from memory needles (k + 1) at (suc n)
+      → hits_from memory needles at number (suc n) ≡ record { at = at; needle = k } ∷ hits_from memory needles at (k + 1) (suc n)
   hits_from-first number at n k above inside missing found =
       hits_from-next number at n
-      ∙ ap (λ l. l ++ hits_from memory needles 0 (at + 1) n) (hits_at-first at number k above inside missing found)
+      ∙ ap (λ l. l ++ hits_from memory needles (at + 1) 0 n) (hits_at-first at number k above inside missing found)
       ∙ ap (λ l. record { at = at; needle = k } ∷ l) (sym (hits_from-next (k + 1) at n))

@@ -26,11 +26,11 @@ hits_at memory needles at number (suc n) =
 
 -- the hits at n addresses from one on; at the first of them, those of the needles from a number on
 unfoldable pub hits_from : AddressSpace → List (List ℕ) → ℕ → ℕ → ℕ → List Hit
-hits_from memory needles number at zero = []
-hits_from memory needles number at (suc n) = hits_at memory needles at number (length needles - number) ++ hits_from memory needles 0 (at + 1) n
+hits_from memory needles at number zero = []
+hits_from memory needles at number (suc n) = hits_at memory needles at number (length needles - number) ++ hits_from memory needles (at + 1) 0 n
 
--- The hits of needles in the addresses from a first one to a last one: all pairs of an address and a needle number where
+-- The hits of needles in the addresses from a first to a last one: all pairs of an address and a needle number where
 -- each byte of the needle is present and equal from the address on, and all lie in these addresses. They rise by
 -- address, then by needle number, and may overlap.
 unfoldable pub hits : AddressSpace → ℕ → ℕ → List (List ℕ) → List Hit
-hits memory first last needles = hits_from (up_to last memory) needles 0 first (last + 1 - first)
+hits memory first last needles = hits_from (up_to last memory) needles first 0 (last + 1 - first)

@@ -34,4 +34,4 @@ searched memory wanted = up_to wanted.last (in_space memory wanted.space)
 
 -- the hits that are left in it
 abbrev pub hits_behind : AddressSpace → Wanted → Position → List Hit
-hits_behind memory wanted position = hits_from memory wanted.needles position.number position.at (addresses_left wanted.last position)
+hits_behind memory wanted position = hits_from memory wanted.needles position.at position.number (addresses_left wanted.last position)

@@ -20,7 +20,7 @@ pub record ScannerState : Type 0 where
 
 -- the hits that are left to give over a physical memory: those that are not before the pair at which the scanner stands
 abbrev pub hits_left : AddressSpace → ScannerState → List Hit
-hits_left memory scanner = hits_from (up_to scanner.last (in_space memory scanner.space)) scanner.needles scanner.number scanner.at scanner.left
+hits_left memory scanner = hits_from (up_to scanner.last (in_space memory scanner.space)) scanner.needles scanner.at scanner.number scanner.left
 
 -- each byte that is kept is that of the physical memory
 abbrev pub KeepsTrue : AddressSpace → ScannerState → Type 0

@@ -14,7 +14,7 @@ returns-in-Some-clause-hits c memory tells =
     let hit = c.in-Some.hit in
     let first = c.in-Some.ensures in
     let left : addresses_left wanted.last position ≡ wanted.last + 1 - position.at = cond-false position.done 0 (wanted.last + 1 - position.at) c.requires.begun in
-    ap (hits_from memory wanted.needles position.number position.at) left
+    ap (hits_from memory wanted.needles position.at position.number) left
     ∙ hit-first memory wanted.needles position.at c.args.bytes.now c.args.until wanted.last position.number tells c.requires.wanted.needles.few c.requires.stands.number c.requires.least c.requires.most hit.at hit.needle (omega arith) first.number first.above first.occurs first.none_before
 
 pub returns-in_default-clause-hits : goal.returns-in_default-clause-hits
@@ -25,6 +25,6 @@ returns-in_default-clause-hits c memory tells =
     let few : length wanted.needles ≤ 8 = c.requires.wanted.needles.few in
     let none : (place k : ℕ) → position.at + place ≤ c.args.until → k < length wanted.needles → position.number ≤ rank place k → ¬ NeedleOccurs wanted.needles c.args.bytes.now k place =
     elim c.in_default.branch [ in_default-via-in-Some+else-hit-until w ↦ (λ place k within inside ranked. w.in-Some.ensures.none_before place k inside ranked (omega arith)) | in_default-via-in_default w ↦ (λ place k within inside ranked. w.in_default.ensures place k inside ranked) ] in
-    ap (hits_from memory wanted.needles position.number position.at) left
+    ap (hits_from memory wanted.needles position.at position.number) left
     ∙ none-until memory wanted.needles position.at c.args.bytes.now c.args.until wanted.last position.number tells c.requires.wanted.needles.few c.requires.stands.number c.requires.least c.requires.most none
     ∙ hits_from-behind memory wanted.needles c.args.until wanted.last c.behind.result.number c.behind.result.at (addresses_left wanted.last c.behind.result) c.requires.most c.behind.ensures.number c.behind.ensures.left c.behind.ensures.address
