@@ -5,8 +5,9 @@ use Rattle.layer_base.specs.AddressSpace.{AddressSpace}
 use Rattle.needle_search.specs.FirstHit.{rank, NeedleOccurs}
 use Rattle.needle_search.specs.declared.hit.Hit.{Hit}
 use Rattle.chunk_scanner.specs.Hits.{occurs, hits_from}
-use Rattle.chunk_scanner.specs.Position.{addresses_left, hits_behind}
-use Rattle.chunk_scanner.specs.Turn.{Tells}
+use Rattle.chunk_scanner.specs.Position.{addresses_left}
+use Rattle.chunk_scanner.specs.Scan.{searched, hits_behind}
+use Rattle.chunk_scanner.specs.Search.{Tells}
 use Rattle.chunk_scanner.specs.declared.position.Position.{Position}
 use Rattle.chunk_scanner.specs.declared.wanted.Wanted.{Wanted}
 use Rattle.chunk_scanner.proofs.Hits.{IsMissing, hits_from-none, hits_from-passed, hits_from-first}
@@ -63,6 +64,7 @@ hits_from-behind memory needles until last number at left most first rest next =
 -- at the end no hit is left
 pub hits_behind-done : (memory : AddressSpace) (wanted : Wanted) (position : Position) (old : List Hit) → position.done ≡ true → old ≡ hits_behind memory wanted position → (old ≡ []) × (hits_behind memory wanted position ≡ [])
 hits_behind-done memory wanted position old done same =
+    let part = searched memory wanted in
     let left : addresses_left wanted.last position ≡ 0 = cond-true position.done 0 (wanted.last + 1 - position.at) done in
-    let none : hits_behind memory wanted position ≡ [] = ap (hits_from memory wanted.needles position.at position.number) left ∙ hits_from-none memory wanted.needles position.number position.at in
+    let none : hits_behind memory wanted position ≡ [] = ap (hits_from part wanted.needles position.at position.number) left ∙ hits_from-none part wanted.needles position.number position.at in
     (same ∙ none, none)

@@ -1,14 +1,15 @@
 -- The bytes that were read tell where needles occur.
-use Rattle.std.proofs.Common.{◌≡◌, ℕ, zero, suc, ◌+◌, ◌-◌, ◌<◌, ◌≤◌, ◌⊎◌, inl, inr, List, [], ◌∷◌, length, map, take, get_or, slice_index_or, true, Option, None, Some, sym, ap, ◌∙◌, ⊎_elim, arith, length-take}
+use Rattle.std.proofs.Common.{◌≡◌, ◌≢◌, ℕ, zero, suc, ◌+◌, ◌-◌, ◌<◌, ◌≤◌, ◌⊎◌, inl, inr, List, [], ◌∷◌, length, map, take, get_or, slice_index_or, Bool, true, false, Option, None, Some, drop, refl, sym, ap, ◌∙◌, ⊎_elim, arith, length-take, length-drop, get_or-take, get_or-drop}
 use Rattle.std.specs.Prelude.{IfSome, MatchOption}
 use Rattle.std.proofs.lemmas.Bool.{cases_lt}
 use Rattle.std.proofs.lemmas.Option.{none-some, same_Some}
 use Rattle.memchr.specs.Find.{OccursAt}
 use Rattle.layer_base.specs.AddressSpace.{AddressSpace, bytes_from}
-use Rattle.chunk_scanner.specs.Filled.{IsFilledWithin, IsFilledFrom}
+use Rattle.chunk_scanner.specs.Filled.{IsReadWithin}
 use Rattle.chunk_scanner.specs.Hits.{occurs, up_to}
+use Rattle.chunk_scanner.specs.Window.{AreBytesFrom}
 use Rattle.chunk_scanner.specs.Position.{IsWanted}
-use Rattle.chunk_scanner.specs.Turn.{IsKnownUntil, Tells}
+use Rattle.chunk_scanner.specs.Search.{IsKnownUntil, Tells}
 use Rattle.chunk_scanner.specs.declared.filled.Filled.{Filled}
 use Rattle.chunk_scanner.specs.declared.wanted.Wanted.{Wanted}
 use Rattle.chunk_scanner.proofs.Occurs.{occurs-byte, occurs-all, up_to-within, up_to-behind}
@@ -27,22 +28,16 @@ byte-from memory at (suc n) (byte ∷ bytes) read (suc k) below =
     let rest : bytes_from memory (at + 1) n ≡ map Some bytes = cc read in
     rw next at (byte-from memory (at + 1) n bytes rest k (omega arith))
 
-module _ (memory : AddressSpace) (wanted : Wanted) (at : ℕ) (buf : List ℕ) (filled : Filled) (until : ℕ) (sound : IsWanted wanted) (read : IsFilledFrom memory at buf filled) (known : IsKnownUntil wanted at filled until)
-    (most : until ≤ wanted.last) (fits : filled.count ≤ length buf) (inside : at + filled.count ≤ wanted.last + 1) where
-  abbrev window : List ℕ
-  window = take filled.count buf
-
+module _ (memory : AddressSpace) (wanted : Wanted) (at : ℕ) (window : List ℕ) (filled : Filled) (until : ℕ) (sound : IsWanted wanted) (bytes : AreBytesFrom memory at window) (length-window : length window ≡ filled.count)
+    (behind : IfSome filled.hole (λ last. (a : ℕ) → at + filled.count ≤ a → a ≤ last → memory a ≡ None)) (known : IsKnownUntil wanted at filled until) (most : until ≤ wanted.last) (inside : at + filled.count ≤ wanted.last + 1) where
   abbrev part : AddressSpace
   part = up_to wanted.last memory
-
-  length-window : length window ≡ filled.count
-  length-window = omega (arith, length-take filled.count buf)
 
   -- a byte of the window
   byte-at : (place k : ℕ) → place + k < filled.count → part (at + place + k) ≡ Some (get_or window (place + k) 0)
   byte-at place k below =
       let same : at + place + k ≡ at + (place + k) = omega arith in
-      rw same (up_to-within wanted.last memory (at + (place + k)) (omega arith) ∙ byte-from memory at filled.count window read.bytes (place + k) below)
+      rw same (up_to-within wanted.last memory (at + (place + k)) (omega arith) ∙ bytes (place + k) (omega arith))
 
   -- a needle that occurs does not pass the window
   module _ (place : ℕ) (needle : List ℕ) (within : at + place ≤ until) (some : 1 ≤ length needle) (short : length needle ≤ wanted.longest) (found : occurs part (at + place) needle ≡ true) where
@@ -52,7 +47,7 @@ module _ (memory : AddressSpace) (wanted : Wanted) (at : ℕ) (buf : List ℕ) (
     ends : place + length needle ≤ filled.count
     ends =
         ⊎_elim
-        (λ past. absurd (by filled.hole past known read.hole))
+        (λ past. absurd (by filled.hole past known behind))
         (λ fine. fine)
         (cases_lt filled.count (place + length needle))
       where
@@ -82,10 +77,37 @@ module _ (memory : AddressSpace) (wanted : Wanted) (at : ℕ) (buf : List ℕ) (
     only = λ place number within inside found. stands place (slice_index_or wanted.needles number []) within (sound.needles.each number [] inside).some (sound.each number [] inside) found;
   }
 
--- no more bytes were read than there was room for
-pub count-within : (at room : ℕ) (filled : Filled) → IsFilledWithin at room filled → filled.count ≤ room
-count-within at room filled within = by filled.hole within
+-- what was read into a buffer, and is kept from its first byte on
+pub filled-bytes : (memory : AddressSpace) (at n : ℕ) (buf items : List ℕ) → items ≡ buf → bytes_from memory at n ≡ map Some (take n buf) → AreBytesFrom memory at (take (n - 0) items)
+filled-bytes memory at n buf items same read k below =
+    let all : n - 0 ≡ n = omega arith in
+    let kept : take (n - 0) items ≡ take n buf = ap (λ (m : ℕ). take m items) all ∙ ap (take n) same in
+    byte-from memory at n (take n buf) read k (omega (arith, ap length kept, length-take n buf, below)) ∙ ap (λ (bytes : List ℕ). Some (get_or bytes k 0)) (sym kept)
+
+-- the front of bytes of the memory
+pub front-bytes : (memory : AddressSpace) (at n : ℕ) (bytes : List ℕ) → AreBytesFrom memory at bytes → AreBytesFrom memory at (take n bytes)
+front-bytes memory at n bytes all k below =
+    let early : k < n = omega (arith, length-take n bytes) in
+    all k (omega (arith, length-take n bytes)) ∙ ap (λ (byte : ℕ). Some byte) (sym (get_or-take n bytes k 0 early))
+
+-- and what is left behind so many
+pub passed-bytes : (memory : AddressSpace) (at n : ℕ) (bytes : List ℕ) → AreBytesFrom memory at bytes → AreBytesFrom memory (at + n) (drop n bytes)
+passed-bytes memory at n bytes all k below =
+    let there : at + n + k ≡ at + (n + k) = omega arith in
+    rw there (all (n + k) (omega (arith, length-drop n bytes)) ∙ ap (λ (byte : ℕ). Some byte) (sym (get_or-drop n bytes k 0)))
+
+-- the bytes that are kept once the scan has gone on to an address, or to its end
+pub followed-bytes : (memory : AddressSpace) (from at : ℕ) (done : Bool) (old new : List ℕ) → from ≤ at → (done ≡ true → new ≡ []) → (done ≡ false → new ≡ drop (at - from) old) → AreBytesFrom memory from old → AreBytesFrom memory at new
+followed-bytes memory from at true old new order cleared passed all k below = absurd (omega (arith, ap length (cleared refl)))
+followed-bytes memory from at false old new order cleared passed all k below =
+    let there : from + (at - from) ≡ at = omega arith in
+    let rest : AreBytesFrom memory at (drop (at - from) old) = rw there at (passed-bytes memory from (at - from) old all) in
+    rw (passed refl) (rest k (omega (arith, ap length (passed refl))))
+
+-- no more was read than was to be
+pub read-inside : (at more : ℕ) (filled : Filled) → IsReadWithin at more filled → filled.count ≤ more + 1
+read-inside at more filled read = by filled.hole read
   where
-    by : (hole : Option ℕ) → MatchOption hole (filled.count ≡ room) (λ last. (filled.count < room) × (at + filled.count ≤ last)) → filled.count ≤ room
-    by None full = omega (arith, full)
-    by (Some last) ended = omega (arith, ended.0)
+    by : (hole : Option ℕ) → MatchOption hole ((1 ≤ filled.count) × (filled.count ≤ more + 1) × (filled.count ≢ more + 1 → 4096 ≤ filled.count)) (λ last. (at + filled.count ≤ last) × (filled.count ≤ more)) → filled.count ≤ more + 1
+    by None some = some.1
+    by (Some last) some = omega (arith, some.1)

@@ -1,10 +1,6 @@
 -- Where a scan stands, and what it looks for.
-use Rattle.std.specs.Prelude.{◌≡◌, ℕ, ◌+◌, ◌-◌, ◌*◌, ◌≤◌, false, if◌then◌else◌, List, length, All}
-use Rattle.layer_base.specs.AddressSpace.{AddressSpace}
-use Rattle.space_memory.specs.InSpace.{in_space}
+use Rattle.std.specs.Prelude.{◌≡◌, ℕ, ◌+◌, ◌-◌, ◌*◌, ◌≤◌, false, if◌then◌else◌, length, All}
 use Rattle.needle_search.specs.Needles.{AreNeedles}
-use Rattle.needle_search.specs.declared.hit.Hit.{Hit}
-use Rattle.chunk_scanner.specs.Hits.{up_to, hits_from}
 use Rattle.chunk_scanner.specs.declared.position.Position.{Position}
 use Rattle.chunk_scanner.specs.declared.wanted.Wanted.{Wanted}
 
@@ -27,11 +23,3 @@ pub record IsWanted (wanted : Wanted) : Type 0 where
   pub some : 1 ≤ wanted.longest
   pub few : wanted.longest ≤ 4096
   pub each : All (λ needle. length needle ≤ wanted.longest) wanted.needles
-
--- the part of a physical memory that is searched
-abbrev pub searched : AddressSpace → Wanted → AddressSpace
-searched memory wanted = up_to wanted.last (in_space memory wanted.space)
-
--- the hits that are left in it
-abbrev pub hits_behind : AddressSpace → Wanted → Position → List Hit
-hits_behind memory wanted position = hits_from memory wanted.needles position.at position.number (addresses_left wanted.last position)

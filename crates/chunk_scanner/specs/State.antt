@@ -1,11 +1,12 @@
 -- What a scanner is to its callers.
-use Rattle.std.specs.Prelude.{◌≡◌, ℕ, ◌+◌, ◌-◌, ◌*◌, List, [], ◌∷◌, slice_index, EachIndex, Option, None, Some, Result, Ok, Err}
+use Rattle.std.specs.Prelude.{◌≡◌, ℕ, ◌-◌, ◌*◌, ◌<◌, ◌≤◌, List, [], ◌∷◌, length, Option, None, Some, Result, Ok, Err}
 use Rattle.layer_base.specs.AddressSpace.{AddressSpace}
 use Rattle.layer_base.specs.declared.layer.DeviceFailed.{DeviceFailed}
 use Rattle.layer_base.specs.declared.space.Space.{Space}
 use Rattle.space_memory.specs.InSpace.{in_space}
 use Rattle.needle_search.specs.declared.hit.Hit.{Hit}
 use Rattle.chunk_scanner.specs.Hits.{up_to, hits_from}
+use Rattle.chunk_scanner.specs.Window.{AreBytesFrom}
 
 -- The space that is searched up to a last address, and the needles. The scanner stands at an address and there at a
 -- needle number, and so many addresses are left. Some bytes from where it stands may be kept.
@@ -24,7 +25,7 @@ hits_left memory scanner = hits_from (up_to scanner.last (in_space memory scanne
 
 -- each byte that is kept is that of the physical memory
 abbrev pub KeepsTrue : AddressSpace → ScannerState → Type 0
-KeepsTrue memory scanner = EachIndex scanner.kept (λ k. in_space memory scanner.space (scanner.at + k) ≡ Some (slice_index scanner.kept k))
+KeepsTrue memory scanner = AreBytesFrom (in_space memory scanner.space) scanner.at scanner.kept
 
 -- what falls with each hit that is given: there are at most 8 needles
 abbrev pub pairs_left : ScannerState → ℕ
@@ -35,3 +36,8 @@ abbrev pub GivesFirst : List Hit → List Hit → Result (Option Hit) DeviceFail
 GivesFirst old new (Ok (Some hit)) = old ≡ hit ∷ new
 GivesFirst old new (Ok None) = (old ≡ []) × (new ≡ [])
 GivesFirst old new (Err fault) = new ≡ old
+
+-- a hit is not behind the last address, and its needle is one of those
+pub record IsHitWithin (last : ℕ) (needles : List (List ℕ)) (hit : Hit) : Type 0 where
+  pub address : hit.at ≤ last
+  pub number : hit.needle < length needles

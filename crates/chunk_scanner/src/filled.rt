@@ -1,12 +1,12 @@
 //! Reading as much as a buffer takes.
-ghost use Rattle.std.specs.Prelude.{◌+◌, ◌^◌, ◌≤◌, length, IsErr, IfOk, IfSome};
+ghost use Rattle.std.specs.Prelude.{◌+◌, ◌^◌, ◌<◌, ◌≤◌, length, IsErr, IfOk, IfSome};
 ghost use Rattle.layer_base.specs.Counts.{HasCause};
 ghost use Rattle.layer_base.specs.View.{physical};
 ghost use Rattle.space_memory.specs.InSpace.{in_space};
 ghost use Rattle.space_memory.specs.State.{IsSameMemory};
-ghost use Rattle.chunk_scanner.specs.Filled.{IsFilledWithin, IsFilledFrom};
+ghost use Rattle.chunk_scanner.specs.Filled.{IsFilledWithin, IsFilledFrom, IsReadWithin};
 
-use layer_base::{DeviceFailed, Layer, Run, Space, Steps};
+use layer_base::{DeviceFailed, Layer, Run, Space, Steps, room_within};
 use space_memory::Memory;
 use std::sync::ledger::Ledger;
 
@@ -17,8 +17,8 @@ pub(crate) struct Filled {
     pub(crate) hole: Option<u64>,
 }
 
-/// Fills a buffer with the bytes from an address on, as far as they are present.
-pub(crate) fn fill<Y: Layer, L: Ledger>(
+// Fills a buffer with the bytes from an address on, as far as they are present.
+fn fill<Y: Layer, L: Ledger>(
     memory: &mut Memory<Y>,
     space: Space,
     at: u64,
@@ -45,4 +45,25 @@ pub(crate) fn fill<Y: Layer, L: Ledger>(
         }
     }
     Ok(Filled { count, hole: None })
+}
+
+/// The same with the bytes of an address and at most `more` behind it.
+pub(crate) fn fill_within<Y: Layer, L: Ledger>(
+    memory: &mut Memory<Y>,
+    space: Space,
+    at: u64,
+    more: u64,
+    buf: &mut [u8],
+    steps: &mut Steps<L>,
+) -> Result<Filled, DeviceFailed>
+    requires addresses { at + more < 2 ^ 64 }
+    requires room { 4096 ≤ length buf.old }
+    ensures enough { IfOk result (IsReadWithin at more) }
+    ensures count { IfOk result (λ filled. filled.count ≤ length buf.old) }
+    ensures filled { IfSome memory.old.view (λ view. IfOk result (IsFilledFrom (in_space (physical view) space) at buf.new)) }
+    ensures memory { IsSameMemory memory.old memory.new }
+    ensures cause { HasCause memory.old.faults memory.new.faults (IsErr result) }
+{
+    let room = room_within(more, buf.len());
+    fill(memory, space, at, &mut buf[..room], steps)
 }

@@ -5,6 +5,8 @@ mod filled;
 mod position;
 mod scan;
 mod scanner;
+mod search;
 mod wanted;
+mod window;
 
 pub use scanner::Scanner;

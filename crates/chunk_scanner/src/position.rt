@@ -16,6 +16,7 @@ impl Position {
         requires { at ≤ last }
         ensures stands { StandsWithin last result }
         ensures left { addresses_left last result ≡ last - at }
+        ensures order { at ≤ result.at }
         ensures address { at < last → result.at ≡ at + 1 }
         ensures number { result.number ≡ 0 }
     {

@@ -1,117 +1,136 @@
-//! A scan: what is read from where it stands, and where it goes on.
-ghost use Rattle.std.specs.Prelude.{◌≡◌, ◌<◌, ◌≤◌, false, take, length, IsErr, IfOk, IfSome, OnOk, OnErr};
+//! A scan: it searches what it keeps, and reads where that is too little.
+ghost use Rattle.std.specs.Prelude.{◌≡◌, ◌-◌, ◌<◌, ◌≤◌, [], true, false, drop, length, IsErr, IfOk, IfSome, OnOk, OnErr};
 ghost use Rattle.layer_base.specs.AddressSpace.{AddressSpace};
 ghost use Rattle.layer_base.specs.Counts.{HasCause};
 ghost use Rattle.layer_base.specs.View.{physical};
 ghost use Rattle.space_memory.specs.State.{IsSameMemory};
-ghost use Rattle.chunk_scanner.specs.Position.{pairs_behind, searched, hits_behind, StandsWithin, IsWanted};
-ghost use Rattle.chunk_scanner.specs.State.{GivesFirst};
-ghost use Rattle.chunk_scanner.specs.Turn.{IsEnough, IsKnownUntil, Tells, PassesTo, IsHitWithin};
+ghost use Rattle.chunk_scanner.specs.Position.{pairs_behind};
+ghost use Rattle.chunk_scanner.specs.Scan.{hits_behind, IsScan, Keeps, Passes};
+ghost use Rattle.chunk_scanner.specs.State.{GivesFirst, IsHitWithin};
+ghost use Rattle.chunk_scanner.specs.Window.{kept_bytes, IsWindow};
 
-use crate::filled::{Filled, fill};
 use crate::position::Position;
+use crate::search::{known_until, search};
 use crate::wanted::Wanted;
-use layer_base::{DeviceFailed, Layer, Steps, room_within};
-use needle_search::{Hit, first_from};
+use crate::window::Window;
+use layer_base::{DeviceFailed, Layer, Steps};
+use needle_search::Hit;
 use space_memory::Memory;
 use std::sync::ledger::Ledger;
 
-// How much is read at first. It has room for the longest needle.
+// How much of what is kept is searched at first. It has room for the longest needle.
 const FIRST_ROOM: usize = 4096;
 
-// The last address of those at which what was read decides which needles begin.
-fn known_until(wanted: &Wanted, at: u64, filled: &Filled) -> u64
-    requires { IsEnough wanted.now at filled.now }
-    ensures least { at ≤ result }
-    ensures most { result ≤ wanted.now.last }
-    ensures known { IsKnownUntil wanted.now at filled.now result }
+// Passes the bytes from an address up to where the scan stands now.
+fn follow(window: &mut Window, from: u64, position: &Position)
+    requires window { IsWindow window.old }
+    requires order { from ≤ position.now.at }
+    ensures window { IsWindow window.new }
+    ensures done { position.now.done ≡ true → kept_bytes window.new ≡ [] }
+    ensures kept { position.now.done ≡ false → kept_bytes window.new ≡ drop (position.now.at - from) (kept_bytes window.old) }
 {
-    let last = wanted.last;
-    let Some(hole) = filled.hole else {
-        let end = at + (filled.count as u64 - 1);
-        if end == last {
-            return last;
-        }
-        return at + (filled.count - wanted.longest) as u64;
-    };
-    hole.min(last)
+    if position.done {
+        window.clear();
+    } else {
+        window.pass(position.at - from);
+    }
 }
 
-// Goes on to behind the first hit, or behind an address up to which there is none.
-fn search(wanted: &Wanted, position: &mut Position, bytes: &[u8], until: u64) -> Option<Hit>
-    requires wanted { IsWanted wanted.now }
-    requires stands { StandsWithin wanted.now.last position.old }
+// Searches the front of what is kept, which has room for the longest needle.
+fn search_kept(
+    wanted: &Wanted,
+    position: &mut Position,
+    window: &mut Window,
+    room: usize,
+) -> Option<Hit>
+    requires scan { IsScan wanted.now position.old window.old }
     requires begun { position.old.done ≡ false }
-    requires least { position.old.at ≤ until }
-    requires most { until ≤ wanted.now.last }
-    ensures hits { (memory : AddressSpace) → Tells memory wanted.now.needles position.old.at bytes.now until → PassesTo (hits_behind memory wanted.now position.old) (hits_behind memory wanted.now position.new) result }
-    ensures stands { StandsWithin wanted.now.last position.new }
+    requires enough { wanted.now.longest ≤ length (kept_bytes window.old) }
+    requires room { 4096 ≤ room }
+    ensures hits { (memory : AddressSpace) → Keeps memory wanted.now position.old window.old → Passes memory wanted.now position.old position.new result }
+    ensures kept { (memory : AddressSpace) → Keeps memory wanted.now position.old window.old → Keeps memory wanted.now position.new window.new }
+    ensures scan { IsScan wanted.now position.new window.new }
     ensures fewer { pairs_behind wanted.now.last position.new < pairs_behind wanted.now.last position.old }
     ensures within { IfSome result (IsHitWithin wanted.now.last wanted.now.needles) }
 {
     let at = position.at;
-    match first_from(&wanted.needles, position.number, bytes) {
-        Some(hit) if hit.at <= until - at => {
-            let found = Hit {
-                at: at + hit.at,
-                needle: hit.needle,
-            };
-            *position = Position {
-                at: found.at,
-                number: found.needle + 1,
-                done: false,
-            };
-            Some(found)
-        }
-        _ => {
-            *position = Position::behind(until, wanted.last);
-            None
-        }
-    }
+    let bytes = window.bytes();
+    let count = bytes.len().min(room);
+    let until = at + (count - wanted.longest) as u64;
+    let found = search(wanted, position, &bytes[..count], until);
+    follow(window, at, position);
+    found
 }
 
-// Reads from where it stands, as much as the buffer takes, and searches that.
-fn turn<Y: Layer, L: Ledger>(
+// Reads from where the scan stands, as much as the buffer takes, and searches that. After a failure nothing is kept.
+fn search_further<Y: Layer, L: Ledger>(
     wanted: &Wanted,
     position: &mut Position,
-    buf: &mut [u8],
+    window: &mut Window,
     memory: &mut Memory<Y>,
     steps: &mut Steps<L>,
 ) -> Result<Option<Hit>, DeviceFailed>
-    requires wanted { IsWanted wanted.now }
-    requires stands { StandsWithin wanted.now.last position.old }
+    requires scan { IsScan wanted.now position.old window.old }
     requires begun { position.old.done ≡ false }
-    requires room { 4096 ≤ length buf.old }
-    ensures hits { IfSome memory.old.view (λ view. IfOk result (PassesTo (hits_behind (searched (physical view) wanted.now) wanted.now position.old) (hits_behind (searched (physical view) wanted.now) wanted.now position.new))) }
+    ensures hits { IfSome memory.old.view (λ view. IfOk result (Passes (physical view) wanted.now position.old position.new)) }
     ensures same { OnErr result (position.new ≡ position.old) }
-    ensures stands { OnOk result (StandsWithin wanted.now.last position.new) }
+    ensures kept { IfSome memory.old.view (λ view. Keeps (physical view) wanted.now position.new window.new) }
+    ensures scan { IsScan wanted.now position.new window.new }
     ensures fewer { OnOk result (pairs_behind wanted.now.last position.new < pairs_behind wanted.now.last position.old) }
     ensures within { IfOk result (λ found. IfSome found (IsHitWithin wanted.now.last wanted.now.needles)) }
     ensures memory { IsSameMemory memory.old memory.new }
     ensures cause { HasCause memory.old.faults memory.new.faults (IsErr result) }
 {
     let at = position.at;
-    let room = room_within(wanted.last - at, buf.len());
-    let filled = fill(memory, wanted.space, at, &mut buf[..room], steps)?;
+    let filled = window.refill(memory, wanted.space, at, wanted.last - at, steps)?;
     let until = known_until(wanted, at, &filled);
-    Ok(search(wanted, position, &buf[..filled.count], until))
+    let found = search(wanted, position, window.bytes(), until);
+    follow(window, at, position);
+    Ok(found)
 }
 
-/// Gives the next hit and goes on to behind it. It reads little at first, since a hit may be near, and then twice as much
-/// each time.
-pub(crate) fn next<Y: Layer, L: Ledger>(
+fn turn<Y: Layer, L: Ledger>(
     wanted: &Wanted,
     position: &mut Position,
-    buf: &mut [u8],
+    window: &mut Window,
+    room: usize,
     memory: &mut Memory<Y>,
     steps: &mut Steps<L>,
 ) -> Result<Option<Hit>, DeviceFailed>
-    requires wanted { IsWanted wanted.now }
-    requires stands { StandsWithin wanted.now.last position.old }
-    requires least { 4096 ≤ length buf.old }
-    requires most { length buf.old ≤ 16777216 }
-    ensures hits { IfSome memory.old.view (λ view. GivesFirst (hits_behind (searched (physical view) wanted.now) wanted.now position.old) (hits_behind (searched (physical view) wanted.now) wanted.now position.new) result) }
-    ensures stands { StandsWithin wanted.now.last position.new }
+    requires scan { IsScan wanted.now position.old window.old }
+    requires begun { position.old.done ≡ false }
+    requires kept { IfSome memory.old.view (λ view. Keeps (physical view) wanted.now position.old window.old) }
+    requires room { 4096 ≤ room }
+    ensures hits { IfSome memory.old.view (λ view. IfOk result (Passes (physical view) wanted.now position.old position.new)) }
+    ensures same { OnErr result (position.new ≡ position.old) }
+    ensures kept { IfSome memory.old.view (λ view. Keeps (physical view) wanted.now position.new window.new) }
+    ensures scan { IsScan wanted.now position.new window.new }
+    ensures fewer { OnOk result (pairs_behind wanted.now.last position.new < pairs_behind wanted.now.last position.old) }
+    ensures within { IfOk result (λ found. IfSome found (IsHitWithin wanted.now.last wanted.now.needles)) }
+    ensures memory { IsSameMemory memory.old memory.new }
+    ensures cause { HasCause memory.old.faults memory.new.faults (IsErr result) }
+{
+    if window.bytes().len() < wanted.longest {
+        return search_further(wanted, position, window, memory, steps);
+    }
+    Ok(search_kept(wanted, position, window, room))
+}
+
+/// Gives the next hit and goes on to behind it. It searches little of what is kept at first, since a hit may be near, and
+/// then twice as much each time.
+pub(crate) fn next<Y: Layer, L: Ledger>(
+    wanted: &Wanted,
+    position: &mut Position,
+    window: &mut Window,
+    memory: &mut Memory<Y>,
+    steps: &mut Steps<L>,
+) -> Result<Option<Hit>, DeviceFailed>
+    requires scan { IsScan wanted.now position.old window.old }
+    requires kept { IfSome memory.old.view (λ view. Keeps (physical view) wanted.now position.old window.old) }
+    ensures hits { IfSome memory.old.view (λ view.
+        GivesFirst (hits_behind (physical view) wanted.now position.old) (hits_behind (physical view) wanted.now position.new) result) }
+    ensures kept { IfSome memory.old.view (λ view. Keeps (physical view) wanted.now position.new window.new) }
+    ensures scan { IsScan wanted.now position.new window.new }
     ensures fewer { IfOk result (λ found. IfSome found (λ hit. pairs_behind wanted.now.last position.new < pairs_behind wanted.now.last position.old)) }
     ensures within { IfOk result (λ found. IfSome found (IsHitWithin wanted.now.last wanted.now.needles)) }
     ensures memory { IsSameMemory memory.old memory.new }
@@ -119,10 +138,10 @@ pub(crate) fn next<Y: Layer, L: Ledger>(
 {
     let mut room = FIRST_ROOM;
     while !position.done {
-        if let Some(hit) = turn(wanted, position, &mut buf[..room], memory, steps)? {
+        if let Some(hit) = turn(wanted, position, window, room, memory, steps)? {
             return Ok(Some(hit));
         }
-        room = buf.len().min(2 * room);
+        room = room.saturating_mul(2);
     }
     Ok(None)
 }

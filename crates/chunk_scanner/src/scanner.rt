@@ -6,12 +6,12 @@ ghost use Rattle.layer_base.specs.View.{physical};
 ghost use Rattle.space_memory.specs.InSpace.{in_space};
 ghost use Rattle.space_memory.specs.State.{IsSameMemory};
 ghost use Rattle.chunk_scanner.specs.Hits.{hits};
-ghost use Rattle.chunk_scanner.specs.State.{hits_left, pairs_left, KeepsTrue, GivesFirst};
-ghost use Rattle.chunk_scanner.specs.Turn.{IsHitWithin};
+ghost use Rattle.chunk_scanner.specs.State.{hits_left, pairs_left, KeepsTrue, GivesFirst, IsHitWithin};
 
 use crate::position::Position;
 use crate::scan::next;
 use crate::wanted::Wanted;
+use crate::window::Window;
 use layer_base::{DeviceFailed, Layer, Space, Steps};
 use needle_search::{Hit, Needles};
 use space_memory::Memory;
@@ -24,19 +24,20 @@ use std::sync::ledger::Ledger;
 pub struct Scanner {
     wanted: Wanted,
     position: Position,
-    buf: Vec<u8>,
+    window: Window,
 }
 
 impl Model for Scanner {
-    ghost use Rattle.std.specs.Prelude.{◌≤◌, [], vec_len};
     ghost use Rattle.chunk_scanner.specs.State.{ScannerState};
-    ghost use Rattle.chunk_scanner.specs.Position.{addresses_left, StandsWithin, IsWanted};
+    ghost use Rattle.chunk_scanner.specs.Position.{addresses_left};
+    ghost use Rattle.chunk_scanner.specs.Scan.{IsScan};
+    ghost use Rattle.chunk_scanner.specs.Window.{kept_bytes};
 
     ghost Value = { ScannerState };
 
-    ghost view = { λ s. record { space = s.wanted.space; last = s.wanted.last; needles = s.wanted.needles; at = s.position.at; number = s.position.number; left = addresses_left s.wanted.last s.position; kept = [] } };
+    ghost view = { λ s. record { space = s.wanted.space; last = s.wanted.last; needles = s.wanted.needles; at = s.position.at; number = s.position.number; left = addresses_left s.wanted.last s.position; kept = kept_bytes s.window } };
 
-    ghost invariant = { λ s. IsWanted s.wanted × StandsWithin s.wanted.last s.position × (4096 ≤ vec_len s.buf) × (vec_len s.buf ≤ 16777216) };
+    ghost invariant = { λ s. IsScan s.wanted s.position s.window };
 }
 
 fn zeros(alloc: Global, count: usize) -> Result<Vec<u8>, AllocError>
@@ -79,7 +80,11 @@ impl Scanner {
                 number: 0,
                 done: false,
             },
-            buf,
+            window: Window {
+                buf,
+                start: 0,
+                end: 0,
+            },
         })
     }
 
@@ -103,7 +108,7 @@ impl Scanner {
         next(
             &self.wanted,
             &mut self.position,
-            &mut self.buf,
+            &mut self.window,
             memory,
             steps,
         )

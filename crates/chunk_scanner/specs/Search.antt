@@ -1,8 +1,7 @@
--- One turn of a scan.
-use Rattle.std.specs.Prelude.{◌≡◌, ◌≢◌, ℕ, ◌+◌, ◌<◌, ◌≤◌, ◌⊎◌, true, List, ◌∷◌, length, slice_index_or, [], Option, None, Some, MatchOption}
+-- What one search knows of what was read.
+use Rattle.std.specs.Prelude.{◌≡◌, ◌≢◌, ℕ, ◌+◌, ◌<◌, ◌≤◌, ◌⊎◌, true, List, length, slice_index_or, [], MatchOption}
 use Rattle.layer_base.specs.AddressSpace.{AddressSpace}
 use Rattle.needle_search.specs.FirstHit.{NeedleOccurs}
-use Rattle.needle_search.specs.declared.hit.Hit.{Hit}
 use Rattle.chunk_scanner.specs.Hits.{occurs}
 use Rattle.chunk_scanner.specs.declared.filled.Filled.{Filled}
 use Rattle.chunk_scanner.specs.declared.wanted.Wanted.{Wanted}
@@ -27,13 +26,3 @@ IsKnownUntil wanted at filled until =
 pub record Tells (memory : AddressSpace) (needles : List (List ℕ)) (at : ℕ) (bytes : List ℕ) (until : ℕ) : Type 0 where
   pub there : (place number : ℕ) → at + place ≤ until → number < length needles → NeedleOccurs needles bytes number place → occurs memory (at + place) (slice_index_or needles number []) ≡ true
   pub only : (place number : ℕ) → at + place ≤ until → number < length needles → occurs memory (at + place) (slice_index_or needles number []) ≡ true → NeedleOccurs needles bytes number place
-
--- the first hit was taken, or none was passed
-abbrev pub PassesTo : List Hit → List Hit → Option Hit → Type 0
-PassesTo old new None = old ≡ new
-PassesTo old new (Some hit) = old ≡ hit ∷ new
-
--- a hit is not behind the last address, and its needle is one of those
-pub record IsHitWithin (last : ℕ) (needles : List (List ℕ)) (hit : Hit) : Type 0 where
-  pub address : hit.at ≤ last
-  pub number : hit.needle < length needles
