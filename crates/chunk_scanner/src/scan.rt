@@ -89,6 +89,7 @@ fn search_further<Y: Layer, L: Ledger>(
     Ok(found)
 }
 
+// One search, of what is kept or of what is read.
 fn turn<Y: Layer, L: Ledger>(
     wanted: &Wanted,
     position: &mut Position,

@@ -40,6 +40,7 @@ impl Model for Scanner {
     ghost invariant = { λ s. IsScan s.wanted s.position s.window };
 }
 
+// A buffer of so many bytes.
 fn zeros(alloc: Global, count: usize) -> Result<Vec<u8>, AllocError>
     ensures { IfOk result (λ zeros. vec_len zeros ≡ count) }
 {

@@ -48,8 +48,7 @@ impl Needles {
         Ok(())
     }
 
-    /// How many bytes serve to tell of each needle whether it begins with them: at least 1, and as many as the longest
-    /// needle has.
+    /// How many bytes the longest needle has, and 1 where there is no needle.
     pub fn longest(&self) -> usize
         ensures some { 1 ≤ result }
         ensures few { result ≤ 4096 }

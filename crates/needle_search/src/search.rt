@@ -16,7 +16,8 @@ pub fn first_in(needles: &Needles, window: &[u8]) -> Option<Hit>
     first_among(needles.items(), 0, window)
 }
 
-/// The same, but for hits at the window's first place of needles below a number.
+/// Returns the first hit that is not before the needle of a number at the window's first place; None exactly where there
+/// is none. It takes no memory.
 pub fn first_from(needles: &Needles, least: u32, window: &[u8]) -> Option<Hit>
     requires { least ≤ 8 }
     ensures { IsFirstFrom needles.now window.now least result }
@@ -24,6 +25,7 @@ pub fn first_from(needles: &Needles, least: u32, window: &[u8]) -> Option<Hit>
     first_among(needles.items(), least, window)
 }
 
+// The same, among needles that are within their limits.
 fn first_among(needles: &[Name], least: u32, window: &[u8]) -> Option<Hit>
     requires needles { AreNeedles needles.now }
     requires least { least ≤ 8 }
