@@ -1,0 +1,5 @@
+pub mod Examples
+pub mod Hits
+pub mod Occurs
+pub mod Telling
+pub mod Windows

@@ -1,0 +1,25 @@
+-- Where a scan stands, and what it looks for.
+use Rattle.std.specs.Prelude.{◌≡◌, ℕ, ◌+◌, ◌-◌, ◌*◌, ◌≤◌, false, if◌then◌else◌, length, All}
+use Rattle.needle_search.specs.Needles.{AreNeedles}
+use Rattle.chunk_scanner.specs.declared.position.Position.{Position}
+use Rattle.chunk_scanner.specs.declared.wanted.Wanted.{Wanted}
+
+-- how many addresses are left, up to a last one
+abbrev pub addresses_left : ℕ → Position → ℕ
+addresses_left last position = if position.done then 0 else last + 1 - position.at
+
+-- what falls with each pair that is passed: there are at most 8 needles
+abbrev pub pairs_behind : ℕ → Position → ℕ
+pairs_behind last position = 9 * addresses_left last position - position.number
+
+-- the address is not behind the last one, and the number is that of a needle or the next one
+pub record StandsWithin (last : ℕ) (position : Position) : Type 0 where
+  pub address : position.done ≡ false → position.at ≤ last
+  pub number : position.number ≤ 8
+
+-- the needles are within their limits, and none is longer than is said
+pub record IsWanted (wanted : Wanted) : Type 0 where
+  pub needles : AreNeedles wanted.needles
+  pub some : 1 ≤ wanted.longest
+  pub few : wanted.longest ≤ 4096
+  pub each : All (λ needle. length needle ≤ wanted.longest) wanted.needles

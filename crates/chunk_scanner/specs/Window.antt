@@ -1,0 +1,18 @@
+-- The bytes that a scan keeps.
+use Rattle.std.specs.Prelude.{◌≡◌, ℕ, ◌+◌, ◌-◌, ◌≤◌, List, take, drop, vec_len, slice_index, EachIndex, Some}
+use Rattle.layer_base.specs.AddressSpace.{AddressSpace}
+use Rattle.chunk_scanner.specs.declared.window.Window.{Window}
+
+-- each byte is that of the memory, from an address on
+abbrev pub AreBytesFrom : AddressSpace → ℕ → List ℕ → Type 0
+AreBytesFrom memory at bytes = EachIndex bytes (λ k. memory (at + k) ≡ Some (slice_index bytes k))
+
+-- the bytes that are not passed yet
+abbrev pub kept_bytes : Window → List ℕ
+kept_bytes window = take (window.end - window.start) (drop window.start window.buf.items)
+
+-- they lie in the buffer, which has room for the longest needle
+pub record IsWindow (window : Window) : Type 0 where
+  pub order : window.start ≤ window.end
+  pub within : window.end ≤ vec_len window.buf
+  pub room : 4096 ≤ vec_len window.buf

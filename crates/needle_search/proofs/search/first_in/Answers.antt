@@ -1,0 +1,5 @@
+use Rattle.needle_search.proofs.Firsts.{first-in}
+use Rattle.needle_search.proofs.search.first_in.Goals as goal
+
+pub returns : goal.returns
+returns c = first-in c.args.needles.now c.args.window.now c.items.ensures.fit.few c.first_among.result (rw c.items.ensures.value at c.first_among.ensures)

@@ -1,0 +1,2 @@
+pub mod FirstHit
+pub mod Needles

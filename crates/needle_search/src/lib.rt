@@ -1,0 +1,10 @@
+//! Searches of bytes for several needles at once.
+#![tactic(auto)]
+
+mod hit;
+mod needles;
+mod search;
+
+pub use hit::Hit;
+pub use needles::Needles;
+pub use search::{first_from, first_in};
