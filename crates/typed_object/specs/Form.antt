@@ -8,7 +8,7 @@ use Rattle.std.specs.Prelude.{ℕ, false, nat_le, if◌then◌else◌, Option, N
 use Rattle.std.specs.Option.{option_map_or}
 use Rattle.std.specs.Result.{result_map_both}
 use Rattle.isf_reader.specs.Depth.{entry_named}
-use Rattle.isf_reader.specs.Table.{Sections}
+use Rattle.isf_reader.specs.Table.{IsfTable}
 use Rattle.isf_reader.specs.declared.base_type.BaseKind.{BaseKind}
 use Rattle.isf_reader.specs.declared.base_type.BaseKind.TheVariants as kinds
 use Rattle.isf_reader.specs.declared.base_type.BaseType.{BaseType}
@@ -34,7 +34,7 @@ base_form None = Err NoType
 base_form (Some base) = form_of_kind base base.kind
 
 -- a pointer has no sign
-abbrev pub pointer_form : Sections → Form
+abbrev pub pointer_form : IsfTable → Form
 pointer_form table = record { size = pointer_size table; signed = false; big = option_map_or (λ base. base.big) (entry_named (codes "pointer") table.bases) false }
 
 -- an enum has a size of its own, and the sign and byte order of its base type
@@ -42,7 +42,7 @@ abbrev pub form_with_base : ℕ → Option BaseType → Result Form TypeFault
 form_with_base size None = Err NoType
 form_with_base size (Some base) = Ok (record { size = size; signed = base.signed; big = base.big })
 
-abbrev pub enum_form : Sections → Option EnumType → Result Form TypeFault
+abbrev pub enum_form : IsfTable → Option EnumType → Result Form TypeFault
 enum_form table None = Err NoType
 enum_form table (Some enumeration) = form_with_base enumeration.size (entry_named enumeration.base table.bases)
 
@@ -51,7 +51,7 @@ abbrev pub unsigned : Form → Form
 unsigned form = record { size = form.size; signed = false; big = form.big }
 
 -- the form of one level of a type, with that of the type within in its place
-abbrev pub form_step : Sections → TypeRef-F (Result Form TypeFault) → Result Form TypeFault
+abbrev pub form_step : IsfTable → TypeRef-F (Result Form TypeFault) → Result Form TypeFault
 form_step table (TypeRef-F.Base name) = base_form (entry_named name table.bases)
 form_step table (TypeRef-F.Pointer of) = Ok (pointer_form table)
 form_step table (TypeRef-F.Array count of) = Err NotNumber
@@ -63,7 +63,7 @@ form_step table (TypeRef-F.Bits position length of) = result_map_both unsigned (
 form_step table TypeRef-F.Function = Err NotNumber
 
 -- the form of a type's number, or its fault
-abbrev pub form_of : Sections → TypeRef → Result Form TypeFault
+abbrev pub form_of : IsfTable → TypeRef → Result Form TypeFault
 form_of table = fold-TypeRef (Result Form TypeFault) (form_step table)
 
 -- a number has at most 16 bytes
@@ -71,5 +71,5 @@ abbrev pub unless_big : Result Form TypeFault → Result Form TypeFault
 unless_big (Ok form) = if nat_le form.size 16 then Ok form else Err TooBig
 unless_big (Err fault) = Err fault
 
-abbrev pub number_form : Sections → TypeRef → Result Form TypeFault
+abbrev pub number_form : IsfTable → TypeRef → Result Form TypeFault
 number_form table of = unless_big (form_of table of)

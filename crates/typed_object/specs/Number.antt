@@ -5,7 +5,7 @@ use Rattle.byteorder.specs.Endian.{big_number, little_number, twos_complement}
 use Rattle.layer_base.specs.AddressSpace.{AddressSpace}
 use Rattle.layer_base.specs.declared.number.Number.{Number}
 use Rattle.layer_base.specs.declared.number.Number.TheVariants.{Unsigned, Signed}
-use Rattle.isf_reader.specs.Table.{Sections}
+use Rattle.isf_reader.specs.Table.{IsfTable}
 use Rattle.isf_reader.specs.declared.type_ref.TypeRef.{TypeRef}
 use Rattle.isf_reader.specs.declared.type_ref.TypeRef.TheOpen.{TypeRef-F}
 use Rattle.isf_reader.specs.declared.type_ref.TypeRef.TheFolds.{fold-TypeRef}
@@ -49,5 +49,5 @@ number_by memory at of (Err fault) = Err (Fault fault)
 
 -- The number of a type at an address of a memory. A fault of the type comes first, then that its bytes pass the last
 -- address, then the first absent one.
-unfoldable pub number : AddressSpace → Sections → ℕ → TypeRef → Result Number ObjectFault
+unfoldable pub number : AddressSpace → IsfTable → ℕ → TypeRef → Result Number ObjectFault
 number memory table at of = number_by memory at of (number_form table of)

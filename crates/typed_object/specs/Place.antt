@@ -1,6 +1,6 @@
 -- Places of members and elements.
 use Rattle.std.specs.Prelude.{ℕ, ◌+◌, ◌^◌, List, nat_lt, if◌then◌else◌, Result, Ok, Err}
-use Rattle.isf_reader.specs.Table.{Sections}
+use Rattle.isf_reader.specs.Table.{IsfTable}
 use Rattle.isf_reader.specs.declared.type_ref.TypeRef.{TypeRef}
 use Rattle.type_layout.specs.Element.{element}
 use Rattle.type_layout.specs.Member.{Spot, member}
@@ -22,9 +22,9 @@ placed_if at (Ok s) = placed at s
 placed_if at (Err fault) = Err fault
 
 -- where the member of a name stands
-abbrev pub member_at : Sections → ℕ → TypeRef → List ℕ → Result Spot TypeFault
+abbrev pub member_at : IsfTable → ℕ → TypeRef → List ℕ → Result Spot TypeFault
 member_at table at of name = placed_if at (member table of name)
 
 -- where the element of an index stands
-abbrev pub element_at : Sections → ℕ → TypeRef → ℕ → Result Spot TypeFault
+abbrev pub element_at : IsfTable → ℕ → TypeRef → ℕ → Result Spot TypeFault
 element_at table at of index = placed_if at (element table of index)

@@ -3,7 +3,7 @@ use Rattle.std.specs.Prelude.{ℕ, Result, Ok, Err}
 use Rattle.layer_base.specs.AddressSpace.{AddressSpace}
 use Rattle.layer_base.specs.Number.{low_word}
 use Rattle.layer_base.specs.declared.number.Number.{Number}
-use Rattle.isf_reader.specs.Table.{Sections}
+use Rattle.isf_reader.specs.Table.{IsfTable}
 use Rattle.isf_reader.specs.declared.type_ref.TypeRef.{TypeRef, out-TypeRef}
 use Rattle.isf_reader.specs.declared.type_ref.TypeRef.TheOpen.{TypeRef-F}
 use Rattle.type_layout.specs.Member.{Spot}
@@ -34,5 +34,5 @@ target_of n (Ok of) = led_to of n
 target_of n (Err fault) = Err fault
 
 -- where the pointer at an address of a memory leads, in the same memory
-unfoldable pub target : AddressSpace → Sections → ℕ → TypeRef → Result Spot ObjectFault
+unfoldable pub target : AddressSpace → IsfTable → ℕ → TypeRef → Result Spot ObjectFault
 target memory table at of = target_of (number memory table at of) (pointee (out-TypeRef of))

@@ -3,7 +3,7 @@ use Rattle.std.specs.Prelude.{◌≡◌, ◌≢◌, ◌<◌, ◌≤◌, ℕ, zer
 use Rattle.std.specs.Result.{result_map_both}
 use Rattle.layer_base.specs.AddressSpace.{AddressSpace}
 use Rattle.isf_reader.specs.Depth.{entry_named}
-use Rattle.isf_reader.specs.Table.{Sections}
+use Rattle.isf_reader.specs.Table.{IsfTable}
 use Rattle.isf_reader.specs.declared.base_type.BaseKind.{BaseKind}
 use Rattle.isf_reader.specs.declared.base_type.BaseKind.TheVariants as kinds
 use Rattle.isf_reader.specs.declared.base_type.BaseType.{BaseType}
@@ -25,7 +25,7 @@ abbrev pub is_character_base : Option BaseType → Bool
 is_character_base None = false
 is_character_base (Some base) = is_char_kind base.kind && base.size == 1
 
-abbrev pub is_character_in : Sections → TypeRef-F TypeRef → Bool
+abbrev pub is_character_in : IsfTable → TypeRef-F TypeRef → Bool
 is_character_in table (TypeRef-F.Base name) = is_character_base (entry_named name table.bases)
 is_character_in table (TypeRef-F.Pointer of) = false
 is_character_in table (TypeRef-F.Array count of) = false
@@ -36,11 +36,11 @@ is_character_in table (TypeRef-F.Enum name) = false
 is_character_in table (TypeRef-F.Bits position length of) = false
 is_character_in table TypeRef-F.Function = false
 
-abbrev pub is_character : Sections → TypeRef → Bool
+abbrev pub is_character : IsfTable → TypeRef → Bool
 is_character table of = is_character_in table (out-TypeRef of)
 
 -- how many characters an array of characters has
-abbrev pub characters_in : Sections → TypeRef-F TypeRef → Option ℕ
+abbrev pub characters_in : IsfTable → TypeRef-F TypeRef → Option ℕ
 characters_in table (TypeRef-F.Base name) = None
 characters_in table (TypeRef-F.Pointer of) = None
 characters_in table (TypeRef-F.Array count of) = if is_character table of then Some count else None
@@ -51,7 +51,7 @@ characters_in table (TypeRef-F.Enum name) = None
 characters_in table (TypeRef-F.Bits position length of) = None
 characters_in table TypeRef-F.Function = None
 
-abbrev pub characters : Sections → TypeRef → Option ℕ
+abbrev pub characters : IsfTable → TypeRef → Option ℕ
 characters table of = characters_in table (out-TypeRef of)
 
 -- what is said of an absent byte: a hole, or that it lies behind the last address
@@ -77,7 +77,7 @@ text_of memory at None = Err (Fault NotArray)
 text_of memory at (Some count) = text_from memory at count
 
 -- the text of an array of characters at an address of a memory
-abbrev pub text : AddressSpace → Sections → ℕ → TypeRef → Result (List ℕ) ObjectFault
+abbrev pub text : AddressSpace → IsfTable → ℕ → TypeRef → Result (List ℕ) ObjectFault
 text memory table at of = text_of memory at (characters table of)
 
 -- bytes are taken up to this one, which is zero where a text ends, and else behind the last

@@ -16,7 +16,7 @@ use Rattle.layer_base.specs.declared.number.Number.TheVariants.{Unsigned, Signed
 use Rattle.kernel_records.specs.declared.value.Value.{Value}
 use Rattle.kernel_records.specs.declared.value.Value.TheVariants as values
 use Rattle.isf_reader.specs.Depth.{entry_named}
-use Rattle.isf_reader.specs.Table.{Sections}
+use Rattle.isf_reader.specs.Table.{IsfTable}
 use Rattle.isf_reader.specs.declared.base_type.BaseKind.{BaseKind}
 use Rattle.isf_reader.specs.declared.base_type.BaseKind.TheVariants as kinds
 use Rattle.isf_reader.specs.declared.base_type.BaseType.{BaseType}
@@ -96,7 +96,7 @@ abbrev pub array_value : AddressSpace → ℕ → ℕ → Bool → Value
 array_value memory at count characters = if characters then value_by values.Text (text_from memory at count) else values.Array count
 
 -- the value of a type, of the number that it has
-abbrev pub value_in : AddressSpace → Sections → ℕ → Result Number ObjectFault → TypeRef-F TypeRef → Value
+abbrev pub value_in : AddressSpace → IsfTable → ℕ → Result Number ObjectFault → TypeRef-F TypeRef → Value
 value_in memory table at n (TypeRef-F.Base name) = base_value memory at n (entry_named name table.bases)
 value_in memory table at n (TypeRef-F.Pointer of) = value_by (λ m. values.Pointer (low_word m)) n
 value_in memory table at n (TypeRef-F.Array count of) = array_value memory at count (is_character table of)
@@ -113,7 +113,7 @@ unless_sizeless (Ok size) value = value
 unless_sizeless (Err fault) value = values.Unknown
 
 -- the value of a type at an address of a memory
-unfoldable pub value : AddressSpace → Sections → ℕ → TypeRef → Value
+unfoldable pub value : AddressSpace → IsfTable → ℕ → TypeRef → Value
 value memory table at of =
     if nat_lt at (2 ^ 64)
     then unless_sizeless (size_of table of) (value_in memory table at (number memory table at of) (out-TypeRef of))
