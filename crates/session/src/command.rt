@@ -10,16 +10,14 @@ ghost use Rattle.session.specs.Evidence.{Evidence, evidence_at, evidence_in};
 ghost use Rattle.session.specs.Line.{line_said, is_quit, flow_of};
 ghost use Rattle.session.specs.Turn.{flow_after};
 
+use crate::desk::Desk;
 use crate::error_line::{write_fault, write_refusal, write_unknown};
 use crate::place::place_of;
-use crate::read::{Page, write_read};
+use crate::read::write_read;
 use crate::status::{CommandFault, PluginFault};
-use crate::symbol_file::SymbolFile;
 use crate::translate::write_translation;
 use command_words::{Command, LineFault, parse_line};
 use layer_base::{Layer, Sink, Steps, write_whole};
-use space_memory::Memory;
-use std::alloc::Global;
 use std::sync::ledger::Ledger;
 use symbol_texts::{layout_text, near_text, symbol_text};
 
@@ -41,33 +39,31 @@ fn flow_of(command: &Command) -> Flow
 
 /// Writes what a line says, and answers whether the script goes on.
 pub(crate) fn run_line<Y: Layer, O: Sink, D: Sink, L: Ledger>(
-    alloc: Global,
-    memory: &mut Memory<Y>,
-    file: &SymbolFile<'_>,
-    page: &mut Page,
+    desk: &mut Desk<'_, Y>,
     line: &[u8],
     out: &mut O,
     dump: &mut D,
     steps: &mut Steps<L>,
 ) -> Result<Flow, CommandFault>
-    ensures text { IfSome memory.old.view (λ view.
-        Writes (O.written out.old) (O.written out.new) result (line_said (evidence_in view file.now.table.now) line.now).text) }
-    ensures dumped { IfSome memory.old.view (λ view.
-        Writes (D.written dump.old) (D.written dump.new) result (line_said (evidence_in view file.now.table.now) line.now).dumped) }
+    ensures text { IfSome desk.old.memory.view (λ view.
+        Writes (O.written out.old) (O.written out.new) result (line_said (evidence_in view desk.old.file.table.now) line.now).text) }
+    ensures dumped { IfSome desk.old.memory.view (λ view.
+        Writes (D.written dump.old) (D.written dump.new) result (line_said (evidence_in view desk.old.file.table.now) line.now).dumped) }
     ensures flow { IfOk result (λ flow. flow ≡ flow_after is_quit line.now) }
-    ensures memory { IsSameMemory memory.old memory.new }
-    ensures image { HasCause memory.old.faults memory.new.faults (IsErrOf result CommandFault.Image) }
+    ensures memory { IsSameMemory desk.old.memory desk.new.memory }
+    ensures file { desk.new.file ≡ desk.old.file }
+    ensures image { HasCause desk.old.memory.faults desk.new.memory.faults (IsErrOf result CommandFault.Image) }
     ensures out { HasCause (O.faults out.old) (O.faults out.new) (IsErrOf result CommandFault.Out) }
     ensures dump { HasCause (D.faults dump.old) (D.faults dump.new) (IsErrOf result CommandFault.Dump) }
 {
-    match parse_line(alloc, line) {
+    match parse_line(desk.alloc, line) {
         Ok(command) => {
-            run_command(alloc, memory, file, page, &command, out, dump, steps)?;
+            run_command(desk, &command, out, dump, steps)?;
             Ok(flow_of(&command))
         }
         Err(LineFault::Memory) => Err(CommandFault::Memory),
         Err(fault) => {
-            write_fault(alloc, fault, out)?;
+            write_fault(desk.alloc, fault, out)?;
             Ok(Flow::NextLine)
         }
     }
@@ -75,61 +71,60 @@ pub(crate) fn run_line<Y: Layer, O: Sink, D: Sink, L: Ledger>(
 
 // Writes what a command says.
 fn run_command<Y: Layer, O: Sink, D: Sink, L: Ledger>(
-    alloc: Global,
-    memory: &mut Memory<Y>,
-    file: &SymbolFile<'_>,
-    page: &mut Page,
+    desk: &mut Desk<'_, Y>,
     command: &Command,
     out: &mut O,
     dump: &mut D,
     steps: &mut Steps<L>,
 ) -> Result<(), CommandFault>
     requires { KeepsLimits command.now }
-    ensures writes { WritesOver O.written O.faults out.old out.new memory.old memory.new CommandFault.Image CommandFault.Out result
-        (λ memory. (command_said (evidence_at memory file.now.table.now) command.now).text) }
-    ensures dumped { IfSome memory.old.view (λ view.
-        Writes (D.written dump.old) (D.written dump.new) result (command_said (evidence_in view file.now.table.now) command.now).dumped) }
+    ensures writes { WritesOver O.written O.faults out.old out.new desk.old.memory desk.new.memory CommandFault.Image CommandFault.Out result
+        (λ memory. (command_said (evidence_at memory desk.old.file.table.now) command.now).text) }
+    ensures file { desk.new.file ≡ desk.old.file }
+    ensures dumped { IfSome desk.old.memory.view (λ view.
+        Writes (D.written dump.old) (D.written dump.new) result (command_said (evidence_in view desk.old.file.table.now) command.now).dumped) }
     ensures dump { HasCause (D.faults dump.old) (D.faults dump.new) (IsErrOf result CommandFault.Dump) }
 {
-    write_command(alloc, memory, file, page, command, out, steps)?;
+    write_command(desk, command, out, steps)?;
     Ok(())
 }
 
 // Writes what a command prints that dumps nothing: one line for each command, as in `command_said`.
 #[tactic(auto, unfolding(crate::specs::Command::command_said))]
 fn write_command<Y: Layer, O: Sink, L: Ledger>(
-    alloc: Global,
-    memory: &mut Memory<Y>,
-    file: &SymbolFile<'_>,
-    page: &mut Page,
+    desk: &mut Desk<'_, Y>,
     command: &Command,
     out: &mut O,
     steps: &mut Steps<L>,
 ) -> Result<(), PluginFault>
     requires { KeepsLimits command.now }
-    ensures writes { WritesOver O.written O.faults out.old out.new memory.old memory.new PluginFault.Device PluginFault.Out result
-        (λ memory. (command_said (evidence_at memory file.now.table.now) command.now).text) }
+    ensures writes { WritesOver O.written O.faults out.old out.new desk.old.memory desk.new.memory PluginFault.Device PluginFault.Out result
+        (λ memory. (command_said (evidence_at memory desk.old.file.table.now) command.now).text) }
+    ensures file { desk.new.file ≡ desk.old.file }
     ensures dumped { (evidence : Evidence) → (command_said evidence command.now).dumped ≡ [] }
 {
     match command {
         Command::Nothing | Command::Quit => Ok(()),
         Command::Read { space, at, len } => match place_of(*space, at, *len) {
-            Ok(place) => write_read(memory, page, place, *len, out, steps),
+            Ok(place) => write_read(&mut desk.memory, &mut desk.page, place, *len, out, steps),
             Err(refusal) => Ok(write_refusal(refusal, out)?),
         },
         Command::Translate { space, at } => match place_of(*space, at, 0) {
-            Ok(place) => write_translation(alloc, memory, place, out, steps),
+            Ok(place) => write_translation(desk.alloc, &mut desk.memory, place, out, steps),
             Err(refusal) => Ok(write_refusal(refusal, out)?),
         },
         Command::Layout { name } => Ok(write_whole(
             out,
-            &layout_text(alloc, file.table, name.items())?,
+            &layout_text(desk.alloc, desk.file.table, name.items())?,
         )?),
         Command::Symbol { name } => {
-            Ok(write_whole(out, &symbol_text(alloc, &file.symbols, name.items())?)?)
+            Ok(write_whole(
+                out,
+                &symbol_text(desk.alloc, &desk.file.symbols, name.items())?,
+            )?)
         }
         Command::Near { number } => {
-            Ok(write_whole(out, &near_text(alloc, &file.symbols, *number)?)?)
+            Ok(write_whole(out, &near_text(desk.alloc, &desk.file.symbols, *number)?)?)
         }
         Command::Banners
         | Command::Kernel

@@ -20,6 +20,7 @@ ghost use Rattle.session.specs.Status.{IsAnswer};
 ghost use Rattle.session.specs.SymbolFile.{symbols_taken};
 
 use crate::Status;
+use crate::desk::Desk;
 use crate::read::Page;
 use crate::script::run_script;
 use crate::stack::{StackFault, attach_formats, write_refusal};
@@ -50,14 +51,14 @@ const USAGE: &[u8] = b"usage: memlens IMAGE SYMBOLS [DUMP] [--cache N] [--chunk 
 fn run_file<Y: Layer, S: Source, O: Sink, D: Sink, L: Ledger>(
     alloc: Global,
     image: Y,
-    file: &SymbolFile<'_>,
+    file: SymbolFile<'_>,
     script: &mut S,
     out: &mut O,
     dump: &mut D,
     steps: &mut Steps<L>,
 ) -> (Status, Y)
     ensures ran { IfSome (Y.view image) (λ view. IfSome (S.left script.old) (λ bytes.
-        RanOver (line_said (evidence_in view file.now.table.now)) (script_run (line_said (evidence_in view file.now.table.now)) is_quit bytes) bytes (S.left script.new)
+        RanOver (line_said (evidence_in view file.entry.table.now)) (script_run (line_said (evidence_in view file.entry.table.now)) is_quit bytes) bytes (S.left script.new)
         (O.written out.old) (O.written out.new) (D.written dump.old) (D.written dump.new) result.0)) }
     ensures most_script { GaveAtMost (most_script + 1) (S.left script.old) (S.left script.new) }
     ensures end { IsScriptEnd result.0 }
@@ -66,19 +67,14 @@ fn run_file<Y: Layer, S: Source, O: Sink, D: Sink, L: Ledger>(
 {
     match Memory::new(alloc, image, KEPT_RUNS) {
         Ok(memory) => {
-            let mut memory = memory;
-            let mut page = Page::new(alloc);
-            let status = run_script(
+            let mut desk = Desk {
                 alloc,
-                &mut memory,
+                memory,
                 file,
-                &mut page,
-                script,
-                out,
-                dump,
-                steps,
-            );
-            (status, memory.into_layer())
+                page: Page::new(alloc),
+            };
+            let status = run_script(&mut desk, script, out, dump, steps);
+            (status, desk.memory.into_layer())
         }
         Err(refused) => (Status::Memory, refused.phys),
     }
@@ -104,7 +100,7 @@ fn run_table<Y: Layer, S: Source, O: Sink, D: Sink, L: Ledger>(
     ensures causes { FaultsHaveCause (Y.faults image) (Y.faults result.1) (S.faults script.old) (S.faults script.new) (O.faults out.old) (O.faults out.new) (D.faults dump.old) (D.faults dump.new) result.0 }
 {
     match SymbolFile::of(alloc, table) {
-        Ok(file) => run_file(alloc, image, &file, script, out, dump, steps),
+        Ok(file) => run_file(alloc, image, file, script, out, dump, steps),
         Err(_) => (Status::Memory, image),
     }
 }

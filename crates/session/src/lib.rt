@@ -2,6 +2,7 @@
 #![tactic(auto)]
 
 mod command;
+mod desk;
 mod ended;
 mod error_line;
 mod line_buffer;

@@ -16,13 +16,10 @@ ghost use Rattle.session.specs.Turn.{turn_part, turn_line, turn_flow, rest_part}
 
 use crate::Status;
 use crate::command::{Flow, run_line};
+use crate::desk::Desk;
 use crate::line_buffer::LineBuffer;
-use crate::read::Page;
 use crate::status::{CommandFault, status_after, status_after_line};
-use crate::symbol_file::SymbolFile;
 use layer_base::{Failed, Layer, Sink, Source, Steps, write_whole};
-use space_memory::Memory;
-use std::alloc::Global;
 use std::sync::ledger::Ledger;
 
 /// The most bytes of a script that are read, but for the one that shows that there are more.
@@ -43,24 +40,22 @@ fn take_byte<S: Source>(script: &mut S) -> Result<Option<u8>, Failed>
 
 // Takes a byte into the line, or runs the line that it ends. Answers whether the script goes on.
 fn take_in<Y: Layer, O: Sink, D: Sink, L: Ledger>(
-    alloc: Global,
-    memory: &mut Memory<Y>,
-    file: &SymbolFile<'_>,
-    page: &mut Page,
+    desk: &mut Desk<'_, Y>,
     line: &mut LineBuffer,
     byte: u8,
     out: &mut O,
     dump: &mut D,
     steps: &mut Steps<L>,
 ) -> Result<Flow, CommandFault>
-    ensures text { IfSome memory.old.view (λ view.
-        Writes (O.written out.old) (O.written out.new) result (turn_part (text_part (line_said (evidence_in view file.now.table.now))) line.old byte)) }
-    ensures dumped { IfSome memory.old.view (λ view.
-        Writes (D.written dump.old) (D.written dump.new) result (turn_part (dump_part (line_said (evidence_in view file.now.table.now))) line.old byte)) }
+    ensures text { IfSome desk.old.memory.view (λ view.
+        Writes (O.written out.old) (O.written out.new) result (turn_part (text_part (line_said (evidence_in view desk.old.file.table.now))) line.old byte)) }
+    ensures dumped { IfSome desk.old.memory.view (λ view.
+        Writes (D.written dump.old) (D.written dump.new) result (turn_part (dump_part (line_said (evidence_in view desk.old.file.table.now))) line.old byte)) }
     ensures flow { IfOk result (λ flow. flow ≡ turn_flow is_quit line.old byte) }
     ensures line { OnOk result (line.new ≡ turn_line line.old byte) }
-    ensures memory { IsSameMemory memory.old memory.new }
-    ensures image { HasCause memory.old.faults memory.new.faults (IsErrOf result CommandFault.Image) }
+    ensures memory { IsSameMemory desk.old.memory desk.new.memory }
+    ensures file { desk.new.file ≡ desk.old.file }
+    ensures image { HasCause desk.old.memory.faults desk.new.memory.faults (IsErrOf result CommandFault.Image) }
     ensures out { HasCause (O.faults out.old) (O.faults out.new) (IsErrOf result CommandFault.Out) }
     ensures dump { HasCause (D.faults dump.old) (D.faults dump.new) (IsErrOf result CommandFault.Dump) }
 {
@@ -68,33 +63,31 @@ fn take_in<Y: Layer, O: Sink, D: Sink, L: Ledger>(
         line.add(byte);
         return Ok(Flow::NextLine);
     }
-    let flow = run_line(alloc, memory, file, page, line.bytes(), out, dump, steps)?;
+    let flow = run_line(desk, line.bytes(), out, dump, steps)?;
     line.clear();
     Ok(flow)
 }
 
 // Runs the line that lacks its newline, if there is one.
 fn run_rest<Y: Layer, O: Sink, D: Sink, L: Ledger>(
-    alloc: Global,
-    memory: &mut Memory<Y>,
-    file: &SymbolFile<'_>,
-    page: &mut Page,
+    desk: &mut Desk<'_, Y>,
     line: &LineBuffer,
     out: &mut O,
     dump: &mut D,
     steps: &mut Steps<L>,
 ) -> Result<(), CommandFault>
-    ensures text { IfSome memory.old.view (λ view.
-        Writes (O.written out.old) (O.written out.new) result (rest_part (text_part (line_said (evidence_in view file.now.table.now))) line.now)) }
-    ensures dumped { IfSome memory.old.view (λ view.
-        Writes (D.written dump.old) (D.written dump.new) result (rest_part (dump_part (line_said (evidence_in view file.now.table.now))) line.now)) }
-    ensures memory { IsSameMemory memory.old memory.new }
-    ensures image { HasCause memory.old.faults memory.new.faults (IsErrOf result CommandFault.Image) }
+    ensures text { IfSome desk.old.memory.view (λ view.
+        Writes (O.written out.old) (O.written out.new) result (rest_part (text_part (line_said (evidence_in view desk.old.file.table.now))) line.now)) }
+    ensures dumped { IfSome desk.old.memory.view (λ view.
+        Writes (D.written dump.old) (D.written dump.new) result (rest_part (dump_part (line_said (evidence_in view desk.old.file.table.now))) line.now)) }
+    ensures memory { IsSameMemory desk.old.memory desk.new.memory }
+    ensures file { desk.new.file ≡ desk.old.file }
+    ensures image { HasCause desk.old.memory.faults desk.new.memory.faults (IsErrOf result CommandFault.Image) }
     ensures out { HasCause (O.faults out.old) (O.faults out.new) (IsErrOf result CommandFault.Out) }
     ensures dump { HasCause (D.faults dump.old) (D.faults dump.new) (IsErrOf result CommandFault.Dump) }
 {
     if let rest @ [_, ..] = line.bytes() {
-        run_line(alloc, memory, file, page, rest, out, dump, steps)?;
+        run_line(desk, rest, out, dump, steps)?;
     }
     Ok(())
 }
@@ -102,36 +95,28 @@ fn run_rest<Y: Layer, O: Sink, D: Sink, L: Ledger>(
 /// Runs the lines of a script, one after another through the first `quit`, and writes what they print and dump.
 #[tactic(auto, using(crate::proofs::AtMost::gave_none, crate::proofs::AtMost::gave_more))]
 pub(crate) fn run_script<Y: Layer, S: Source, O: Sink, D: Sink, L: Ledger>(
-    alloc: Global,
-    memory: &mut Memory<Y>,
-    file: &SymbolFile<'_>,
-    page: &mut Page,
+    desk: &mut Desk<'_, Y>,
     script: &mut S,
     out: &mut O,
     dump: &mut D,
     steps: &mut Steps<L>,
 ) -> Status
-    ensures ran { IfSome memory.old.view (λ view. IfSome (S.left script.old) (λ bytes.
-        RanOver (line_said (evidence_in view file.now.table.now)) (script_run (line_said (evidence_in view file.now.table.now)) is_quit bytes) bytes (S.left script.new)
+    ensures ran { IfSome desk.old.memory.view (λ view. IfSome (S.left script.old) (λ bytes.
+        RanOver (line_said (evidence_in view desk.old.file.table.now)) (script_run (line_said (evidence_in view desk.old.file.table.now)) is_quit bytes) bytes (S.left script.new)
         (O.written out.old) (O.written out.new) (D.written dump.old) (D.written dump.new) result)) }
     ensures most { GaveAtMost (most_script + 1) (S.left script.old) (S.left script.new) }
     ensures end { IsScriptEnd result }
-    ensures memory { IsSameMemory memory.old memory.new }
-    ensures causes { FaultsHaveCause memory.old.faults memory.new.faults (S.faults script.old) (S.faults script.new) (O.faults out.old) (O.faults out.new) (D.faults dump.old) (D.faults dump.new) result }
+    ensures memory { IsSameMemory desk.old.memory desk.new.memory }
+    ensures causes { FaultsHaveCause desk.old.memory.faults desk.new.memory.faults (S.faults script.old) (S.faults script.new) (O.faults out.old) (O.faults out.new) (D.faults dump.old) (D.faults dump.new) result }
 {
     let mut line = LineBuffer::new();
     for _ in 0..MAX_SCRIPT {
         match take_byte(script) {
             Err(Failed) => return Status::ScriptFault,
             Ok(None) => {
-                return status_after(
-                    Status::Ok,
-                    run_rest(alloc, memory, file, page, &line, out, dump, steps),
-                );
+                return status_after(Status::Ok, run_rest(desk, &line, out, dump, steps));
             }
-            Ok(Some(byte)) => match take_in(
-                alloc, memory, file, page, &mut line, byte, out, dump, steps,
-            ) {
+            Ok(Some(byte)) => match take_in(desk, &mut line, byte, out, dump, steps) {
                 Ok(Flow::NextLine) => {}
                 Ok(Flow::Quit) => return Status::Ok,
                 Err(fault) => return fault.status(),
@@ -140,10 +125,7 @@ pub(crate) fn run_script<Y: Layer, S: Source, O: Sink, D: Sink, L: Ledger>(
     }
     match take_byte(script) {
         Err(Failed) => Status::ScriptFault,
-        Ok(None) => status_after(
-            Status::Ok,
-            run_rest(alloc, memory, file, page, &line, out, dump, steps),
-        ),
+        Ok(None) => status_after(Status::Ok, run_rest(desk, &line, out, dump, steps)),
         Ok(Some(_)) => status_after_line(
             Status::ScriptTooLong,
             write_whole(out, b"script too long\n"),
