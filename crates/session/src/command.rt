@@ -13,11 +13,13 @@ ghost use Rattle.session.specs.Turn.{flow_after};
 use crate::error_line::{write_fault, write_refusal, write_unknown};
 use crate::place::place_of;
 use crate::read::{Page, write_read};
-use crate::status::{CommandFault, PluginFault};
+use crate::status::CommandFault;
 use crate::symbol_file::SymbolFile;
 use crate::translate::write_translation;
 use command_words::{Command, LineFault, parse_line};
+use kernel_records::PluginFault;
 use layer_base::{Layer, Sink, Steps, write_whole};
+use scan_text::{write_banners, write_scan};
 use space_memory::Memory;
 use std::alloc::Global;
 use std::sync::ledger::Ledger;
@@ -131,8 +133,26 @@ fn write_command<Y: Layer, O: Sink, L: Ledger>(
         Command::Near { number } => {
             Ok(write_whole(out, &near_text(alloc, &file.symbols, *number)?)?)
         }
-        Command::Banners
-        | Command::Kernel
+        Command::Banners => write_banners(alloc, memory, out, steps),
+        Command::Scan {
+            space,
+            at,
+            len,
+            needle,
+        } => match place_of(*space, at, *len) {
+            Ok(place) => write_scan(
+                alloc,
+                memory,
+                place.space,
+                place.at,
+                *len,
+                needle.items(),
+                out,
+                steps,
+            ),
+            Err(refusal) => Ok(write_refusal(refusal, out)?),
+        },
+        Command::Kernel
         | Command::Pslist
         | Command::Pstree
         | Command::Lsmod
@@ -140,7 +160,6 @@ fn write_command<Y: Layer, O: Sink, L: Ledger>(
         | Command::Maps { .. }
         | Command::Lsof { .. }
         | Command::Dump { .. }
-        | Command::Show { .. }
-        | Command::Scan { .. } => Ok(write_unknown(out)?),
+        | Command::Show { .. } => Ok(write_unknown(out)?),
     }
 }
