@@ -69,12 +69,13 @@ module _ (listing : Listing) (memory : AddressSpace) where
       Writes-refused written written' result (listing_text listing memory text old) refused
       (Prefix-front written written' (text ++ rows_of listing memory old) (listing_text listing memory text old) (end_of listing (min (length old) most_count)) refl (CutShort-prefix listing memory written written' (text ++ rows_of listing memory old) new fault cut))
 
-  module _ (written mid written' : Option (List ℕ)) (old : List Hit) (text kept whole : List ℕ) (count : ℕ) (rows : WritesFront written mid (text ++ rows_of listing memory old) kept × (count ≡ min (length old) most_count)) where
-    pub listing-front : {E : Type 0} (result : Result Unit E) → IsErr result → Writes written mid result (listing_text listing memory text old)
-    listing-front result refused =
-        Writes-refused written mid result (listing_text listing memory text old) refused
-        (Prefix-front written mid (text ++ rows_of listing memory old) (listing_text listing memory text old) (end_of listing (min (length old) most_count)) refl (WritesFront-prefix written mid (text ++ rows_of listing memory old) kept rows.0))
+  -- the lines of all hits were written or are kept
+  pub listing-front : {E : Type 0} (written mid : Option (List ℕ)) (old : List Hit) (text kept : List ℕ) (result : Result Unit E) → WritesFront written mid (text ++ rows_of listing memory old) kept → IsErr result → Writes written mid result (listing_text listing memory text old)
+  listing-front written mid old text kept result front refused =
+      Writes-refused written mid result (listing_text listing memory text old) refused
+      (Prefix-front written mid (text ++ rows_of listing memory old) (listing_text listing memory text old) (end_of listing (min (length old) most_count)) refl (WritesFront-prefix written mid (text ++ rows_of listing memory old) kept front))
 
+  module _ (written mid written' : Option (List ℕ)) (old : List Hit) (text kept whole : List ℕ) (count : ℕ) (rows : WritesFront written mid (text ++ rows_of listing memory old) kept × (count ≡ min (length old) most_count)) where
     with-end : whole ≡ kept ++ end_of listing count → WritesFront written mid (listing_text listing memory text old) whole
     with-end ended =
         let more = WritesFront-more written mid (text ++ rows_of listing memory old) kept (end_of listing (min (length old) most_count)) rows.0 in

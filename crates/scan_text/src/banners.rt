@@ -26,5 +26,12 @@ pub fn write_banners<Y: Layer, O: Sink, L: Ledger>(
 {
     let mut scanner = scanner_of(alloc, Space::Phys, 0, u64::MAX, b"Linux version ")?;
     let mut text = Vec::from_slice(alloc, b"OFFSET\tBANNER\n")?;
-    write_hits(memory, &mut scanner, Listing::Banners, &mut text, out, steps)
+    write_hits(
+        memory,
+        &mut scanner,
+        Listing::Banners,
+        &mut text,
+        out,
+        steps,
+    )
 }

@@ -60,8 +60,8 @@ fn write_piece<O: Sink>(text: &mut Vec<u8>, out: &mut O) -> Result<(), SinkFault
     Ok(())
 }
 
-// Passes the next hit; answers whether there was one. The lines of the hits before it are written before a failure of
-// the image, or of its allocator, is answered; where they can't be written, that is answered in its place.
+// Passes the next hit; answers whether there was one. Before a failure to find or to read it is answered, the lines of
+// the hits before it are written. Where that fails too, its fault is the answer, since its count rose as well.
 fn turn<Y: Layer, O: Sink, L: Ledger>(
     memory: &mut Memory<Y>,
     scanner: &mut Scanner,

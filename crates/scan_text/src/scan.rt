@@ -60,5 +60,12 @@ pub fn write_scan<Y: Layer, O: Sink, L: Ledger>(
 {
     let mut scanner = scanner_of(alloc, space, at, at + (len - 1), needle)?;
     let mut text = Vec::new(alloc);
-    write_hits(memory, &mut scanner, Listing::Addresses, &mut text, out, steps)
+    write_hits(
+        memory,
+        &mut scanner,
+        Listing::Addresses,
+        &mut text,
+        out,
+        steps,
+    )
 }
