@@ -1,11 +1,14 @@
 -- What a command says.
 use Rattle.std.specs.Prelude.{ℕ, List, [], ◌++◌, codes, Option, None, Some}
 use Rattle.layer_base.specs.AddressSpace.{AddressSpace, bytes_from}
+use Rattle.layer_base.specs.declared.space.Space.TheVariants.{Phys}
 use Rattle.intel_paging.specs.Block.{translation}
 use Rattle.space_memory.specs.InSpace.{in_space}
 use Rattle.command_words.specs.declared.command.Command.{Command}
 use Rattle.command_words.specs.declared.command.Command.TheVariants as commands
 use Rattle.hex_text.specs.DumpRow.{address_cell, dump_text}
+use Rattle.scan_text.specs.Banners.{banners_text}
+use Rattle.scan_text.specs.Scan.{scan_text}
 use Rattle.symbol_texts.specs.Layout.{layout_text}
 use Rattle.symbol_texts.specs.Symbols.{symbol_text, near_text}
 use Rattle.session.specs.Evidence.{Evidence}
@@ -43,7 +46,7 @@ command_said evidence (commands.Translate space at) = prints (text_at (place_of 
 command_said evidence (commands.Layout name) = prints (layout_text evidence.table name)
 command_said evidence (commands.Symbol name) = prints (symbol_text evidence.table name)
 command_said evidence (commands.Near number) = prints (near_text evidence.table number)
-command_said evidence commands.Banners = not_yet
+command_said evidence commands.Banners = prints (banners_text (in_space evidence.memory Phys))
 command_said evidence commands.Kernel = not_yet
 command_said evidence commands.Pslist = not_yet
 command_said evidence commands.Pstree = not_yet
@@ -53,4 +56,4 @@ command_said evidence (commands.Maps pid) = not_yet
 command_said evidence (commands.Lsof pid) = not_yet
 command_said evidence (commands.Dump space at len) = not_yet
 command_said evidence (commands.Show space at name path) = not_yet
-command_said evidence (commands.Scan space at len needle) = not_yet
+command_said evidence (commands.Scan space at len needle) = prints (text_at (place_of evidence space at len) (λ place. scan_text (in_space evidence.memory place.space) place.at len needle))

@@ -14,10 +14,12 @@ use crate::desk::Desk;
 use crate::error_line::{write_fault, write_refusal, write_unknown};
 use crate::place::place_of;
 use crate::read::write_read;
-use crate::status::{CommandFault, PluginFault};
+use crate::status::CommandFault;
 use crate::translate::write_translation;
 use command_words::{Command, LineFault, parse_line};
+use kernel_records::PluginFault;
 use layer_base::{Layer, Sink, Steps, write_whole};
+use scan_text::{write_banners, write_scan};
 use std::sync::ledger::Ledger;
 use symbol_texts::{layout_text, near_text, symbol_text};
 
@@ -126,8 +128,26 @@ fn write_command<Y: Layer, O: Sink, L: Ledger>(
         Command::Near { number } => {
             Ok(write_whole(out, &near_text(desk.alloc, &desk.file.symbols, *number)?)?)
         }
-        Command::Banners
-        | Command::Kernel
+        Command::Banners => write_banners(desk.alloc, &mut desk.memory, out, steps),
+        Command::Scan {
+            space,
+            at,
+            len,
+            needle,
+        } => match place_of(*space, at, *len) {
+            Ok(place) => write_scan(
+                desk.alloc,
+                &mut desk.memory,
+                place.space,
+                place.at,
+                *len,
+                needle.items(),
+                out,
+                steps,
+            ),
+            Err(refusal) => Ok(write_refusal(refusal, out)?),
+        },
+        Command::Kernel
         | Command::Pslist
         | Command::Pstree
         | Command::Lsmod
@@ -135,7 +155,6 @@ fn write_command<Y: Layer, O: Sink, L: Ledger>(
         | Command::Maps { .. }
         | Command::Lsof { .. }
         | Command::Dump { .. }
-        | Command::Show { .. }
-        | Command::Scan { .. } => Ok(write_unknown(out)?),
+        | Command::Show { .. } => Ok(write_unknown(out)?),
     }
 }

@@ -1,0 +1,4 @@
+pub mod Banners
+pub mod Rows
+pub mod Scan
+pub mod Written
