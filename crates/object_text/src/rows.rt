@@ -1,4 +1,4 @@
-//! Writing the rows of an object, one after another.
+//! Writing the rows of an object, one after another, each made in the same text.
 ghost use Rattle.std.specs.Prelude.{◌≡◌, ◌+◌, IfOk, IfSome, IsErrOf};
 ghost use Rattle.std.specs.List.{flat_map};
 ghost use Rattle.layer_base.specs.Counts.{HasCause};
@@ -11,7 +11,7 @@ ghost use Rattle.typed_object.specs.Value.{value};
 ghost use Rattle.object_text.specs.Object.{row_at, field_row, rows};
 
 use crate::object::user_type;
-use crate::row::set_row;
+use crate::row::append_row;
 use isf_reader::{Field, Table};
 use kernel_records::{PluginFault, Value};
 use layer_base::{Layer, Sink, Steps, write_whole};
@@ -41,7 +41,7 @@ fn value_at<Y: Layer, L: Ledger>(
     }
 }
 
-// Writes the row of a place from a view, which is made in a text.
+// Writes the row of a place from a view. It is made in a text, whatever stood there.
 fn write_row<Y: Layer, O: Sink, L: Ledger>(
     alloc: Global,
     table: &Table,
@@ -57,7 +57,8 @@ fn write_row<Y: Layer, O: Sink, L: Ledger>(
         (λ memory. row_at (in_space memory start.entry.space) table.now start.entry.at place.entry.offset name.now place.entry.of.now) }
 {
     let value = value_at(alloc, table, memory, start, place, steps)?;
-    set_row(text, place.offset, name, place.of, &value)?;
+    text.clear();
+    append_row(text, place.offset, name, place.of, &value)?;
     write_whole(out, text)?;
     Ok(())
 }
@@ -69,13 +70,13 @@ fn write_fields<Y: Layer, O: Sink, L: Ledger>(
     memory: &mut Memory<Y>,
     start: View<'_>,
     fields: &[Field],
+    text: &mut Vec<u8>,
     out: &mut O,
     steps: &mut Steps<L>,
 ) -> Result<(), PluginFault>
     ensures { WritesOver O.written O.faults out.old out.new memory.old memory.new PluginFault.Device PluginFault.Out result
         (λ memory. flat_map (field_row (in_space memory start.entry.space) table.now start.entry.at) fields.now) }
 {
-    let mut text = Vec::new(alloc);
     for field in fields {
         let place = Place {
             offset: field.offset,
@@ -88,7 +89,7 @@ fn write_fields<Y: Layer, O: Sink, L: Ledger>(
             start,
             field.name.items(),
             place,
-            &mut text,
+            text,
             out,
             steps,
         )?;
@@ -102,6 +103,7 @@ pub(crate) fn write_rows<Y: Layer, O: Sink, L: Ledger>(
     table: &Table,
     memory: &mut Memory<Y>,
     view: View<'_>,
+    text: &mut Vec<u8>,
     out: &mut O,
     steps: &mut Steps<L>,
 ) -> Result<(), PluginFault>
@@ -109,23 +111,24 @@ pub(crate) fn write_rows<Y: Layer, O: Sink, L: Ledger>(
         (λ memory. rows (in_space memory view.entry.space) table.now (seen view.entry)) }
 {
     match user_type(table, view.of) {
-        Some(user) => { write_fields(alloc, table, memory, view, user.fields.items(), out, steps) }
+        Some(user) => {
+            write_fields(
+                alloc,
+                table,
+                memory,
+                view,
+                user.fields.items(),
+                text,
+                out,
+                steps,
+            )
+        }
         None => {
             let whole = Place {
                 offset: 0,
                 of: view.of,
             };
-            write_row(
-                alloc,
-                table,
-                memory,
-                view,
-                b"-",
-                whole,
-                &mut Vec::new(alloc),
-                out,
-                steps,
-            )
+            write_row(alloc, table, memory, view, b"-", whole, text, out, steps)
         }
     }
 }

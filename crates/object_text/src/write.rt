@@ -1,16 +1,15 @@
 //! Writing what is printed of an object.
-ghost use Rattle.std.specs.Prelude.{◌≤◌, length};
+ghost use Rattle.std.specs.Prelude.{◌≤◌, length, Ok};
 ghost use Rattle.space_memory.specs.InSpace.{in_space};
 ghost use Rattle.space_memory.specs.Writer.{WritesOver};
 ghost use Rattle.type_layout.specs.Path.{resolve};
 ghost use Rattle.object_text.specs.Object.{text_of_object, text_of_spot, object_text};
 ghost use Rattle.object_text.specs.Told.{told};
-ghost use Rattle.std.specs.Prelude.{Ok};
 
 use crate::fault::fault_line;
 use crate::named::named_type;
 use crate::object::{Object, name_at, object_at, place_in};
-use crate::row::head_line;
+use crate::row::append_head;
 use crate::rows::write_rows;
 use isf_reader::Table;
 use kernel_records::PluginFault;
@@ -34,8 +33,10 @@ fn write_found<Y: Layer, O: Sink, L: Ledger>(
         (λ memory. text_of_object (in_space memory object.entry.view.space) table.now (Ok (told object.entry))) }
 {
     let view = object.view;
-    write_whole(out, &head_line(alloc, view.of, view.at, object.size)?)?;
-    write_rows(alloc, table, memory, view, out, steps)
+    let mut text = Vec::new(alloc);
+    append_head(&mut text, view.of, view.at, object.size)?;
+    write_whole(out, &text)?;
+    write_rows(alloc, table, memory, view, &mut text, out, steps)
 }
 
 // Writes what is printed of the object that a path leads to from a view.

@@ -2,12 +2,12 @@
 use Rattle.std.specs.Prelude.{ℕ, Result, Ok, Err}
 use Rattle.layer_base.specs.declared.sink.SinkFault.{SinkFault}
 use Rattle.layer_base.specs.declared.sink.SinkFault.TheVariants as sink
+use Rattle.kernel_records.specs.declared.fault.PluginFault.{PluginFault}
+use Rattle.kernel_records.specs.declared.fault.PluginFault.TheVariants as plugin
 use Rattle.session.specs.declared.status.Status.{Status}
 use Rattle.session.specs.declared.status.Status.TheVariants as status
 use Rattle.session.specs.declared.status.CommandFault.{CommandFault}
 use Rattle.session.specs.declared.status.CommandFault.TheVariants as fault
-use Rattle.session.specs.declared.status.PluginFault.{PluginFault}
-use Rattle.session.specs.declared.status.PluginFault.TheVariants as plugin
 
 abbrev pub number_of_status : Status → ℕ
 number_of_status status.Ok = 0
@@ -34,10 +34,6 @@ IsAnswer _ = ⊥
 abbrev pub fault_of_sink : SinkFault → CommandFault
 fault_of_sink sink.Failed = fault.Out
 fault_of_sink sink.Memory = fault.Memory
-
-abbrev pub plugin_fault_of_sink : SinkFault → PluginFault
-plugin_fault_of_sink sink.Failed = plugin.Out
-plugin_fault_of_sink sink.Memory = plugin.Memory
 
 abbrev pub fault_of_plugin : PluginFault → CommandFault
 fault_of_plugin plugin.Device = fault.Image

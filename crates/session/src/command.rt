@@ -13,11 +13,13 @@ ghost use Rattle.session.specs.Turn.{flow_after};
 use crate::error_line::{write_fault, write_refusal, write_unknown};
 use crate::place::place_of;
 use crate::read::{Page, write_read};
-use crate::status::{CommandFault, PluginFault};
+use crate::status::CommandFault;
 use crate::symbol_file::SymbolFile;
 use crate::translate::write_translation;
 use command_words::{Command, LineFault, parse_line};
+use kernel_records::PluginFault;
 use layer_base::{Layer, Sink, Steps, write_whole};
+use object_text::write_object;
 use space_memory::Memory;
 use std::alloc::Global;
 use std::sync::ledger::Ledger;
@@ -121,6 +123,18 @@ fn write_command<Y: Layer, O: Sink, L: Ledger>(
             Ok(place) => write_translation(alloc, memory, place, out, steps),
             Err(refusal) => Ok(write_refusal(refusal, out)?),
         },
+        Command::Show {
+            space,
+            at,
+            name,
+            path,
+        } => match place_of(*space, at, 0) {
+            Ok(place) => {
+                let (name, path) = (name.items(), path.items());
+                write_object(alloc, file.table, memory, place.space, place.at, name, path, out, steps)
+            }
+            Err(refusal) => Ok(write_refusal(refusal, out)?),
+        },
         Command::Layout { name } => Ok(write_whole(
             out,
             &layout_text(alloc, file.table, name.items())?,
@@ -140,7 +154,6 @@ fn write_command<Y: Layer, O: Sink, L: Ledger>(
         | Command::Maps { .. }
         | Command::Lsof { .. }
         | Command::Dump { .. }
-        | Command::Show { .. }
         | Command::Scan { .. } => Ok(write_unknown(out)?),
     }
 }

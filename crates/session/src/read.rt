@@ -11,8 +11,8 @@ ghost use Rattle.session.specs.Read.{AddsCells, IsCountWithin};
 ghost use Rattle.session.specs.declared.read.TheConstants.{PIECE};
 
 use crate::place::Place;
-use crate::status::PluginFault;
 use hex_text::append_rows;
+use kernel_records::PluginFault;
 use layer_base::{DeviceFailed, Layer, Run, Sink, Steps, write_whole};
 use space_memory::Memory;
 use std::alloc::{AllocError, Global};

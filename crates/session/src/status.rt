@@ -1,10 +1,9 @@
 //! How a run ends.
 ghost use Rattle.std.specs.Prelude.{◌≡◌};
-ghost use Rattle.session.specs.declared.status.PluginFault.TheVariants.{Device, Memory};
-ghost use Rattle.session.specs.Status.{fault_of_sink, fault_of_plugin, plugin_fault_of_sink, status_of_fault, status_after, status_after_line, number_of_status};
+ghost use Rattle.session.specs.Status.{fault_of_sink, fault_of_plugin, status_of_fault, status_after, status_after_line, number_of_status};
 
-use layer_base::{DeviceFailed, SinkFault};
-use std::alloc::AllocError;
+use kernel_records::PluginFault;
+use layer_base::SinkFault;
 
 /// How a run ended.
 #[derive(Clone, Copy, Debug, PartialEq, Eq)]
@@ -115,41 +114,6 @@ impl From<PluginFault> for CommandFault {
             PluginFault::Device => CommandFault::Image,
             PluginFault::Out => CommandFault::Out,
             PluginFault::Memory => CommandFault::Memory,
-        }
-    }
-}
-
-/// Why a writer was cut short that reads a memory and prints.
-#[derive(Clone, Copy, Debug, PartialEq, Eq)]
-pub(crate) enum PluginFault {
-    Device,
-    Out,
-    Memory,
-}
-
-impl From<DeviceFailed> for PluginFault {
-    ghost from_gives = { λ _ fault. fault ≡ Device };
-
-    fn from(_: DeviceFailed) -> Self {
-        PluginFault::Device
-    }
-}
-
-impl From<AllocError> for PluginFault {
-    ghost from_gives = { λ _ fault. fault ≡ Memory };
-
-    fn from(_: AllocError) -> Self {
-        PluginFault::Memory
-    }
-}
-
-impl From<SinkFault> for PluginFault {
-    ghost from_gives = { λ sink fault. fault ≡ plugin_fault_of_sink sink };
-
-    fn from(fault: SinkFault) -> Self {
-        match fault {
-            SinkFault::Failed => PluginFault::Out,
-            SinkFault::Memory => PluginFault::Memory,
         }
     }
 }

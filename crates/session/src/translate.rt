@@ -4,8 +4,8 @@ ghost use Rattle.space_memory.specs.Writer.{WritesOver};
 ghost use Rattle.session.specs.Command.{physical_cell, translation_row, translate_text};
 
 use crate::place::Place;
-use crate::status::PluginFault;
 use hex_text::append_address;
+use kernel_records::PluginFault;
 use layer_base::{Layer, Sink, Steps, write_whole};
 use space_memory::Memory;
 use std::alloc::{AllocError, Global};
