@@ -6,7 +6,9 @@ use Rattle.intel_paging.specs.Block.{translation}
 use Rattle.space_memory.specs.InSpace.{in_space}
 use Rattle.command_words.specs.declared.command.Command.{Command}
 use Rattle.command_words.specs.declared.command.Command.TheVariants as commands
+use Rattle.isf_reader.specs.Table.{IsfTable}
 use Rattle.hex_text.specs.DumpRow.{address_cell, dump_text}
+use Rattle.object_text.specs.Object.{object_text}
 use Rattle.scan_text.specs.Banners.{banners_text}
 use Rattle.scan_text.specs.Scan.{scan_text}
 use Rattle.symbol_texts.specs.Layout.{layout_text}
@@ -33,6 +35,10 @@ translation_row at to = address_cell at ++ codes "\t" ++ physical_cell to ++ cod
 abbrev pub translate_text : AddressSpace → Place → List ℕ
 translate_text memory place = translation_row place.at (translation memory place.space place.at)
 
+-- the object at a place
+abbrev pub type_text : AddressSpace → IsfTable → List ℕ → List (List ℕ) → Place → List ℕ
+type_text memory table name path place = object_text (in_space memory place.space) table place.at name path
+
 -- a command that does not run yet
 abbrev pub not_yet : Said
 not_yet = prints unknown_text
@@ -43,6 +49,7 @@ command_said evidence commands.Nothing = prints []
 command_said evidence commands.Quit = prints []
 command_said evidence (commands.Read space at len) = prints (text_at (place_of evidence space at len) (read_text evidence.memory len))
 command_said evidence (commands.Translate space at) = prints (text_at (place_of evidence space at 0) (translate_text evidence.memory))
+command_said evidence (commands.Show space at name path) = prints (text_at (place_of evidence space at 0) (type_text evidence.memory evidence.table name path))
 command_said evidence (commands.Layout name) = prints (layout_text evidence.table name)
 command_said evidence (commands.Symbol name) = prints (symbol_text evidence.table name)
 command_said evidence (commands.Near number) = prints (near_text evidence.table number)
@@ -55,5 +62,4 @@ command_said evidence commands.CheckSyscall = not_yet
 command_said evidence (commands.Maps pid) = not_yet
 command_said evidence (commands.Lsof pid) = not_yet
 command_said evidence (commands.Dump space at len) = not_yet
-command_said evidence (commands.Show space at name path) = not_yet
 command_said evidence (commands.Scan space at len needle) = prints (text_at (place_of evidence space at len) (λ place. scan_text (in_space evidence.memory place.space) place.at len needle))

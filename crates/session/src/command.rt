@@ -19,6 +19,7 @@ use crate::translate::write_translation;
 use command_words::{Command, LineFault, parse_line};
 use kernel_records::PluginFault;
 use layer_base::{Layer, Sink, Steps, write_whole};
+use object_text::write_object;
 use scan_text::{write_banners, write_scan};
 use std::sync::ledger::Ledger;
 use symbol_texts::{layout_text, near_text, symbol_text};
@@ -115,6 +116,28 @@ fn write_command<Y: Layer, O: Sink, L: Ledger>(
             Ok(place) => write_translation(desk.alloc, &mut desk.memory, place, out, steps),
             Err(refusal) => Ok(write_refusal(refusal, out)?),
         },
+        Command::Show {
+            space,
+            at,
+            name,
+            path,
+        } => match place_of(*space, at, 0) {
+            Ok(place) => {
+                let (name, path) = (name.items(), path.items());
+                write_object(
+                    desk.alloc,
+                    desk.file.table,
+                    &mut desk.memory,
+                    place.space,
+                    place.at,
+                    name,
+                    path,
+                    out,
+                    steps,
+                )
+            }
+            Err(refusal) => Ok(write_refusal(refusal, out)?),
+        },
         Command::Layout { name } => Ok(write_whole(
             out,
             &layout_text(desk.alloc, desk.file.table, name.items())?,
@@ -154,7 +177,6 @@ fn write_command<Y: Layer, O: Sink, L: Ledger>(
         | Command::CheckSyscall
         | Command::Maps { .. }
         | Command::Lsof { .. }
-        | Command::Dump { .. }
-        | Command::Show { .. } => Ok(write_unknown(out)?),
+        | Command::Dump { .. } => Ok(write_unknown(out)?),
     }
 }

@@ -1,5 +1,6 @@
 pub mod Answers
 pub mod Bytes
+pub mod Fault
 pub mod Form
 pub mod Number
 pub mod Place

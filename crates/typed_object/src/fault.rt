@@ -1,9 +1,11 @@
 //! Why an object doesn't give what was asked of it.
 ghost use Rattle.std.specs.Prelude.{◌≡◌};
+ghost use Rattle.typed_object.specs.Fault.{plugin_fault_of_value};
 ghost use Rattle.typed_object.specs.declared.fault.ObjectFault.TheVariants as objects;
 ghost use Rattle.typed_object.specs.declared.fault.TextFault.TheVariants as texts;
 ghost use Rattle.typed_object.specs.declared.fault.ValueFault.TheVariants as values;
 
+use kernel_records::PluginFault;
 use layer_base::DeviceFailed;
 use std::alloc::AllocError;
 use type_layout::TypeFault;
@@ -81,5 +83,16 @@ impl From<AllocError> for ValueFault {
 
     fn from(_: AllocError) -> Self {
         ValueFault::Memory
+    }
+}
+
+impl From<ValueFault> for PluginFault {
+    ghost from_gives = { λ why fault. fault ≡ plugin_fault_of_value why };
+
+    fn from(fault: ValueFault) -> Self {
+        match fault {
+            ValueFault::Device => PluginFault::Device,
+            ValueFault::Memory => PluginFault::Memory,
+        }
     }
 }

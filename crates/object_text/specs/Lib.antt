@@ -1,0 +1,4 @@
+pub mod Fault
+pub mod Named
+pub mod Object
+pub mod Told
