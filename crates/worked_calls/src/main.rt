@@ -3,12 +3,14 @@
 
 mod layouts;
 mod memory;
+mod needles;
 mod symbols;
 mod tables;
 mod words;
 
 use crate::layouts::print_layouts;
 use crate::memory::print_memory;
+use crate::needles::print_searches;
 use crate::symbols::print_symbols;
 use crate::words::print_commands;
 use anyhow::Result;
@@ -17,5 +19,6 @@ fn main(rt: HostRuntime) -> Result<()> {
     print_commands(&rt)?;
     print_symbols(&rt)?;
     print_layouts(&rt)?;
+    print_searches(&rt)?;
     print_memory(&rt)
 }
