@@ -3,6 +3,8 @@ use Rattle.layer_base.specs.declared.sink.SinkFault.{SinkFault}
 use Rattle.layer_base.specs.declared.sink.SinkFault.TheVariants as sinks
 use Rattle.kernel_records.specs.declared.fault.PluginFault.{PluginFault}
 use Rattle.kernel_records.specs.declared.fault.PluginFault.TheVariants as plugins
+use Rattle.kernel_records.specs.declared.fault.TaskFault.{TaskFault}
+use Rattle.kernel_records.specs.declared.fault.TaskFault.TheVariants as tasks
 use Rattle.kernel_records.specs.declared.fault.WalkFault.{WalkFault}
 use Rattle.kernel_records.specs.declared.fault.WalkFault.TheVariants as walks
 
@@ -15,3 +17,8 @@ plugin_fault_of_sink sinks.Memory = plugins.Memory
 abbrev pub plugin_fault_of_walk : WalkFault → PluginFault
 plugin_fault_of_walk walks.Device = plugins.Device
 plugin_fault_of_walk walks.Memory = plugins.Memory
+
+-- the fault of a list over tasks whose walk failed
+abbrev pub task_fault_of_walk : WalkFault → TaskFault
+task_fault_of_walk walks.Device = tasks.Device
+task_fault_of_walk walks.Memory = tasks.Memory

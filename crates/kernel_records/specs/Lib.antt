@@ -1,1 +1,5 @@
 pub mod Fault
+pub mod Groups
+pub mod Meaning
+pub mod Need
+pub mod Shift

@@ -1,9 +1,11 @@
 //! Why a walk or a command failed.
 ghost use Rattle.std.specs.Prelude.{◌≡◌};
-ghost use Rattle.kernel_records.specs.Fault.{plugin_fault_of_sink, plugin_fault_of_walk};
+ghost use Rattle.kernel_records.specs.Fault.{plugin_fault_of_sink, plugin_fault_of_walk, task_fault_of_walk};
 ghost use Rattle.kernel_records.specs.declared.fault.PluginFault.TheVariants as plugins;
+ghost use Rattle.kernel_records.specs.declared.fault.TaskFault.TheVariants as tasks;
 ghost use Rattle.kernel_records.specs.declared.fault.WalkFault.TheVariants as walks;
 
+use crate::Need;
 use layer_base::{DeviceFailed, SinkFault};
 use std::alloc::AllocError;
 
@@ -23,6 +25,17 @@ pub enum PluginFault {
     Device,
     /// A call on the output failed.
     Out,
+    /// Out of memory.
+    Memory,
+}
+
+/// Why a list over tasks was not made.
+#[derive(Clone, Copy, Debug, PartialEq, Eq)]
+pub enum TaskFault {
+    /// The symbol file lacks this name, the first of those that are needed.
+    Missing { need: Need },
+    /// A call on the image's device failed.
+    Device,
     /// Out of memory.
     Memory,
 }
@@ -77,6 +90,33 @@ impl From<WalkFault> for PluginFault {
         match fault {
             WalkFault::Device => PluginFault::Device,
             WalkFault::Memory => PluginFault::Memory,
+        }
+    }
+}
+
+impl From<DeviceFailed> for TaskFault {
+    ghost from_gives = { λ _ fault. fault ≡ tasks.Device };
+
+    fn from(_: DeviceFailed) -> Self {
+        TaskFault::Device
+    }
+}
+
+impl From<AllocError> for TaskFault {
+    ghost from_gives = { λ _ fault. fault ≡ tasks.Memory };
+
+    fn from(_: AllocError) -> Self {
+        TaskFault::Memory
+    }
+}
+
+impl From<WalkFault> for TaskFault {
+    ghost from_gives = { λ walk fault. fault ≡ task_fault_of_walk walk };
+
+    fn from(fault: WalkFault) -> Self {
+        match fault {
+            WalkFault::Device => TaskFault::Device,
+            WalkFault::Memory => TaskFault::Memory,
         }
     }
 }

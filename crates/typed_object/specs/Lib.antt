@@ -2,6 +2,9 @@ pub mod Answers
 pub mod Bytes
 pub mod Fault
 pub mod Form
+pub mod Ground
+pub mod Members
+pub mod Needs
 pub mod Number
 pub mod Place
 pub mod Target

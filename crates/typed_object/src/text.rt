@@ -59,8 +59,9 @@ fn append_run<Y: Layer, L: Ledger>(
     }
 }
 
-/// The bytes from an address on before the first zero byte, or so many.
-pub(crate) fn read_text<Y: Layer, L: Ledger>(
+/// The bytes of a space from an address on before the first zero byte, or so many. Errors: the first byte up to the first
+/// zero byte that is absent, or `PastEnd` where none is absent and one lies above 2^64 - 1.
+pub fn read_text<Y: Layer, L: Ledger>(
     alloc: Global,
     memory: &mut Memory<Y>,
     space: Space,

@@ -1,0 +1,43 @@
+-- The names of a symbol file that commands need.
+use Rattle.std.specs.Prelude.{ℕ, List, codes}
+use Rattle.kernel_records.specs.declared.need.Need.{Need}
+use Rattle.kernel_records.specs.declared.need.Need.TheVariants as needs
+
+-- the text of a need: the symbol's name, or the type and its member joined by a dot
+abbrev pub need_text : Need → List ℕ
+need_text needs.InitTask = codes "init_task"
+need_text needs.InitFiles = codes "init_files"
+need_text needs.SwapperPgDir = codes "swapper_pg_dir"
+need_text needs.TaskStructComm = codes "task_struct.comm"
+need_text needs.TaskStructPid = codes "task_struct.pid"
+need_text needs.TaskStructFiles = codes "task_struct.files"
+need_text needs.TaskStructTasks = codes "task_struct.tasks"
+need_text needs.ListHeadNext = codes "list_head.next"
+need_text needs.TaskStructTgid = codes "task_struct.tgid"
+need_text needs.TaskStructRealParent = codes "task_struct.real_parent"
+need_text needs.TaskStructMm = codes "task_struct.mm"
+need_text needs.MmStructPgd = codes "mm_struct.pgd"
+need_text needs.FileFPath = codes "file.f_path"
+need_text needs.PathMnt = codes "path.mnt"
+need_text needs.PathDentry = codes "path.dentry"
+need_text needs.DentryDParent = codes "dentry.d_parent"
+need_text needs.DentryDName = codes "dentry.d_name"
+need_text needs.QstrName = codes "qstr.name"
+need_text needs.MountMntParent = codes "mount.mnt_parent"
+need_text needs.MountMntMountpoint = codes "mount.mnt_mountpoint"
+need_text needs.MountMnt = codes "mount.mnt"
+need_text needs.VfsmountMntRoot = codes "vfsmount.mnt_root"
+need_text needs.MmStructMmap = codes "mm_struct.mmap"
+need_text needs.VmAreaStructVmStart = codes "vm_area_struct.vm_start"
+need_text needs.VmAreaStructVmEnd = codes "vm_area_struct.vm_end"
+need_text needs.VmAreaStructVmNext = codes "vm_area_struct.vm_next"
+need_text needs.VmAreaStructVmFlags = codes "vm_area_struct.vm_flags"
+need_text needs.VmAreaStructVmPgoff = codes "vm_area_struct.vm_pgoff"
+need_text needs.VmAreaStructVmFile = codes "vm_area_struct.vm_file"
+need_text needs.FilesStructFdt = codes "files_struct.fdt"
+need_text needs.FdtableMaxFds = codes "fdtable.max_fds"
+need_text needs.FdtableFd = codes "fdtable.fd"
+need_text needs.Modules = codes "modules"
+need_text needs.ModuleList = codes "module.list"
+need_text needs.ModuleName = codes "module.name"
+need_text needs.SysCallTable = codes "sys_call_table"
