@@ -13,7 +13,9 @@ use kernel_records::Value;
 use layer_base::{Name, Number};
 use std::alloc::{AllocError, Global};
 
-fn append_whole(text: &mut Vec<u8>, number: Number) -> Result<(), AllocError>
+/// Appends a number in decimal, with `-` before a negative one. When out of memory, what stood in the text still stands at its
+/// front.
+pub(crate) fn append_whole(text: &mut Vec<u8>, number: Number) -> Result<(), AllocError>
     ensures ok { OnOk result (text.new.items ≡ text.old.items ++ number_cell number) }
     ensures err { OnErr result (StartsWith text.new.items text.old.items) }
 {

@@ -1,5 +1,5 @@
 //! The ground of a command: a symbol file and the kernel of an image.
-ghost use Rattle.std.specs.Prelude.{◌≡◌, option_map};
+ghost use Rattle.std.specs.Prelude.{◌≡◌, ◌*◌, ◌^◌, ◌<◌, option_map, IfSome};
 ghost use Rattle.type_layout.specs.Member.{spot};
 ghost use Rattle.typed_object.specs.Ground.{kernel_space};
 ghost use Rattle.typed_object.specs.Needs.{symbol_address, member_of_type, needed_member, first_missing};
@@ -40,14 +40,16 @@ impl<'a, 't> Ground<'a, 't> {
 
     /// The place of the member that a need asks for. None where the table has no such member, and for a symbol.
     pub fn needed_member(self, need: Need) -> Option<Place<'t>>
-        ensures { option_map spot result ≡ needed_member self.entry.table.now need }
+        ensures place { option_map spot result ≡ needed_member self.entry.table.now need }
+        ensures near { IfSome result (λ place. place.offset < 33 * 2 ^ 32) }
     {
         needed_member(self.table, need)
     }
 
     /// The place of a member of the user type of a name. None where nothing defines the type or no field has the name.
     pub fn member(self, user: &[u8], name: &[u8]) -> Option<Place<'t>>
-        ensures { option_map spot result ≡ member_of_type self.entry.table.now user.now name.now }
+        ensures place { option_map spot result ≡ member_of_type self.entry.table.now user.now name.now }
+        ensures near { IfSome result (λ place. place.offset < 33 * 2 ^ 32) }
     {
         member_of_type(self.table, user, name)
     }

@@ -1,5 +1,5 @@
 //! What a symbol file has of what commands need. The calls take no memory.
-ghost use Rattle.std.specs.Prelude.{◌≡◌, option_map};
+ghost use Rattle.std.specs.Prelude.{◌≡◌, ◌*◌, ◌^◌, ◌<◌, option_map, IfSome};
 ghost use Rattle.kernel_records.specs.Meaning.{meant};
 ghost use Rattle.type_layout.specs.Member.{spot};
 ghost use Rattle.typed_object.specs.Needs.{symbol_address, root_address, member_of_type, member_meant, needed_member, has_meant, is_met, first_missing};
@@ -29,13 +29,15 @@ pub fn root_address(table: &Table, symbols: &Symbols<'_>) -> Option<u64>
 
 /// The place of a member of the user type of a name, or None where nothing defines the type or no field has the name.
 pub fn member_of_type<'t>(table: &'t Table, user: &[u8], name: &[u8]) -> Option<Place<'t>>
-    ensures { option_map spot result ≡ member_of_type table.now user.now name.now }
+    ensures place { option_map spot result ≡ member_of_type table.now user.now name.now }
+    ensures near { IfSome result (λ place. place.offset < 33 * 2 ^ 32) }
 {
     member_named(table, user, name).ok()
 }
 
 fn member_meant<'t>(table: &'t Table, meaning: Meaning<'_>) -> Option<Place<'t>>
-    ensures { option_map spot result ≡ member_meant table.now (meant meaning.entry) }
+    ensures place { option_map spot result ≡ member_meant table.now (meant meaning.entry) }
+    ensures near { IfSome result (λ place. place.offset < 33 * 2 ^ 32) }
 {
     match meaning {
         Meaning::Symbol(_) | Meaning::RootSymbol => None,
@@ -45,7 +47,8 @@ fn member_meant<'t>(table: &'t Table, meaning: Meaning<'_>) -> Option<Place<'t>>
 
 /// The place of the member that a need asks for. None where the table has no such member, and for a symbol.
 pub fn needed_member<'t>(table: &'t Table, need: Need) -> Option<Place<'t>>
-    ensures { option_map spot result ≡ needed_member table.now need }
+    ensures place { option_map spot result ≡ needed_member table.now need }
+    ensures near { IfSome result (λ place. place.offset < 33 * 2 ^ 32) }
 {
     member_meant(table, meaning_of(need))
 }

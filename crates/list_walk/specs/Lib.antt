@@ -1,0 +1,4 @@
+pub mod Links
+pub mod Objects
+pub mod State
+pub mod Turn
