@@ -1,0 +1,6 @@
+pub mod Banner
+pub mod Candidate
+pub mod Criteria
+pub mod Find
+pub mod FoundText
+pub mod Layout
