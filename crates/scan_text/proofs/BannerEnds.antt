@@ -1,6 +1,6 @@
 -- The laws of banners.
 use Rattle.std.proofs.Common.{◌≡◌, ℕ, zero, suc, ◌<◌, List, [], ◌∷◌, length, take, true, false, Bool, refl, sym, ap, ◌∙◌, arith}
-use Rattle.std.specs.Prelude.{slice_index, ◌||◌, ◌==◌}
+use Rattle.std.specs.Prelude.{slice_index}
 use Rattle.std.proofs.lemmas.Bool.{cond-true, cond-false}
 use Rattle.layer_base.specs.AddressSpace.{AddressSpace}
 use Rattle.layer_base.specs.Present.{present_from}

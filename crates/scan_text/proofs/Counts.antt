@@ -1,8 +1,7 @@
 -- How many hits of one needle there are.
-use Rattle.std.proofs.Common.{◌≡◌, ℕ, zero, suc, ◌+◌, ◌-◌, ◌*◌, ◌≤◌, List, [], ◌∷◌, ◌++◌, length, slice_index_or, true, false, Bool, if◌then◌else◌, arith}
+use Rattle.std.proofs.Common.{◌≡◌, ℕ, zero, suc, ◌+◌, ◌-◌, ◌≤◌, List, [], ◌∷◌, ◌++◌, length, slice_index_or, true, false, Bool, if◌then◌else◌, arith}
 use Rattle.std.proofs.lemmas.List.{length-append}
 use Rattle.layer_base.specs.AddressSpace.{AddressSpace}
-use Rattle.needle_search.specs.declared.hit.Hit.{Hit}
 use Rattle.chunk_scanner.specs.Hits.{occurs, up_to, hits_at, hits_from, hits}
 
 -- at most one of each needle at an address

@@ -1,5 +1,5 @@
 -- What the two commands print, as a head, the lines of hits and an end.
-use Rattle.std.proofs.Common.{◌≡◌, ℕ, ◌+◌, ◌-◌, ◌^◌, ◌<◌, ◌≤◌, List, [], ◌∷◌, ◌++◌, length, refl, sym, ◌∙◌, ap, arith}
+use Rattle.std.proofs.Common.{◌≡◌, ℕ, ◌+◌, ◌-◌, ◌^◌, ◌<◌, ◌≤◌, List, [], ◌∷◌, ◌++◌, length, refl, ◌∙◌, ap, arith}
 use Rattle.std.proofs.lemmas.List.{append-nil}
 use Rattle.std.specs.Prelude.{min, codes}
 use Rattle.layer_base.specs.AddressSpace.{AddressSpace}
@@ -9,7 +9,7 @@ use Rattle.needle_search.specs.declared.hit.Hit.{Hit}
 use Rattle.chunk_scanner.specs.Hits.{hits}
 use Rattle.space_memory.specs.InSpace.{in_space}
 use Rattle.scan_text.specs.Banners.{banner_head, banners_text}
-use Rattle.scan_text.specs.Rows.{end_of, listing_text, most_count, rows_of}
+use Rattle.scan_text.specs.Rows.{listing_text, most_count, rows_of}
 use Rattle.scan_text.specs.Scan.{scan_text}
 use Rattle.scan_text.specs.declared.listing.Listing.TheVariants.{Addresses, Banners}
 use Rattle.scan_text.proofs.Counts.{length-hits}

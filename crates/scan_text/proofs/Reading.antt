@@ -8,7 +8,7 @@ use Rattle.layer_base.specs.AddressSpace.{AddressSpace, bytes_from}
 use Rattle.layer_base.specs.Present.{present_from}
 use Rattle.layer_base.specs.declared.space.Space.{Space}
 use Rattle.layer_base.proofs.Present.{present_from-bytes, present_from-end}
-use Rattle.space_memory.specs.Hole.{absent_or, hole, IsGot}
+use Rattle.space_memory.specs.Hole.{hole, IsGot}
 use Rattle.space_memory.specs.InSpace.{in_space}
 use Rattle.space_memory.specs.declared.memory.Got.TheVariants.{All, Hole}
 

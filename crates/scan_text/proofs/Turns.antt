@@ -1,5 +1,5 @@
 -- How the lines of hits are written one after another.
-use Rattle.std.proofs.Common.{◌≡◌, ℕ, suc, ◌+◌, ◌-◌, ◌^◌, ◌≤◌, List, [], ◌∷◌, ◌++◌, length, true, false, Bool, Option, Result, Ok, Err, refl, sym, ◌∙◌, ap, append_assoc, arith}
+use Rattle.std.proofs.Common.{◌≡◌, ℕ, suc, ◌+◌, ◌≤◌, List, ◌++◌, length, true, false, Bool, Option, Result, Ok, Err, refl, sym, ◌∙◌, ap, append_assoc, arith}
 use Rattle.std.proofs.lemmas.List.{append-nil}
 use Rattle.std.specs.Prelude.{min, IsErr, IsErrAnd}
 use Rattle.std.specs.Io.KnownBytes.{Appends}
@@ -11,9 +11,11 @@ use Rattle.needle_search.specs.declared.hit.Hit.{Hit}
 use Rattle.kernel_records.specs.Fault.{plugin_fault_of_sink}
 use Rattle.kernel_records.specs.declared.fault.PluginFault.{PluginFault}
 use Rattle.scan_text.specs.Rows.{end_of, listing_text, most_count, row_of, rows_of}
-use Rattle.scan_text.specs.Written.{AddsRow, CutShort, Turns, WritesFront, WritesRows}
+use Rattle.walk_text.specs.Front.{WritesFront}
+use Rattle.scan_text.specs.Written.{AddsRow, CutShort, Turns, WritesRows}
 use Rattle.scan_text.specs.declared.listing.Listing.{Listing}
-use Rattle.scan_text.proofs.Written.{Appends-behind, CutShort-behind, CutShort-prefix, CutShort-refused, Prefix-behind, Prefix-front, WritesFront-more, WritesFront-prefix, WritesFront-trans}
+use Rattle.scan_text.proofs.Written.{CutShort-behind, CutShort-prefix, CutShort-refused}
+use Rattle.walk_text.proofs.Fronts.{Appends-behind, Prefix-behind, Prefix-front, WritesFront-more, WritesFront-prefix, WritesFront-trans}
 
 -- one hit more is counted, as far as a count goes
 pub counted-more : (count now left fewer whole : ℕ) → now ≡ min (count + 1) most_count → left ≡ 1 + fewer → min (count + left) most_count ≡ whole → min (now + fewer) most_count ≡ whole

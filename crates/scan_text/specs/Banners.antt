@@ -3,7 +3,6 @@ use Rattle.std.specs.Prelude.{ℕ, ◌-◌, ◌^◌, ◌||◌, ◌==◌, if◌th
 use Rattle.std.specs.List.{flat_map}
 use Rattle.layer_base.specs.AddressSpace.{AddressSpace}
 use Rattle.layer_base.specs.Present.{present_from}
-use Rattle.needle_search.specs.declared.hit.Hit.{Hit}
 use Rattle.chunk_scanner.specs.Hits.{hits}
 use Rattle.cell_text.specs.TextCell.{text_cell}
 use Rattle.hex_text.specs.DumpRow.{address_cell}

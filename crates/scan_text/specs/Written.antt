@@ -1,24 +1,14 @@
 -- What was written of the lines of hits, and what is left to write.
 use Rattle.std.specs.Prelude.{◌≡◌, ℕ, ◌+◌, ◌≤◌, min, List, [], ◌∷◌, ◌++◌, length, true, false, Bool, Option, Result, Ok, Err}
-use Rattle.std.specs.Io.KnownBytes.{Appends}
 use Rattle.layer_base.specs.AddressSpace.{AddressSpace}
 use Rattle.layer_base.specs.Known.{AppendsPrefix}
-use Rattle.layer_base.specs.declared.sink.SinkFault.{SinkFault}
 use Rattle.needle_search.specs.declared.hit.Hit.{Hit}
 use Rattle.kernel_records.specs.declared.fault.PluginFault.{PluginFault}
 use Rattle.kernel_records.specs.declared.fault.PluginFault.TheVariants as faults
 use Rattle.kernel_records.specs.declared.fault.WalkFault.{WalkFault}
+use Rattle.walk_text.specs.Front.{WritesFront}
 use Rattle.scan_text.specs.Rows.{most_count, row_of, rows_of}
 use Rattle.scan_text.specs.declared.listing.Listing.{Listing}
-
--- a front of a text was written, and the rest is left
-abbrev pub WritesFront : Option (List ℕ) → Option (List ℕ) → List ℕ → List ℕ → Type 0
-WritesFront old new text rest = (piece : List ℕ) × Appends old new piece × (text ≡ piece ++ rest)
-
--- a text was written and is gone, or it is kept; after a failure a front of it was written
-abbrev pub WritesPiece : Option (List ℕ) → Option (List ℕ) → List ℕ → List ℕ → Result Unit SinkFault → Type 0
-WritesPiece old new text text' (Ok done) = WritesFront old new text text'
-WritesPiece old new text text' (Err fault) = AppendsPrefix old new text
 
 -- at most one hit was taken from the front
 abbrev pub TakesOne : List Hit → List Hit → Type 0

@@ -6,17 +6,15 @@ ghost use Rattle.layer_base.specs.View.{physical};
 ghost use Rattle.space_memory.specs.State.{IsSameMemory};
 ghost use Rattle.chunk_scanner.specs.State.{hits_left, pairs_left, KeepsTrue};
 ghost use Rattle.scan_text.specs.Rows.{listing_text};
-ghost use Rattle.scan_text.specs.Written.{AddsRow, Turns, WritesPiece, WritesRows};
+ghost use Rattle.scan_text.specs.Written.{AddsRow, Turns, WritesRows};
 
 use crate::listing::{Listing, append_end, append_row};
 use chunk_scanner::Scanner;
 use kernel_records::{PluginFault, WalkFault};
-use layer_base::{Layer, Sink, SinkFault, Steps, write_whole};
+use layer_base::{Layer, Sink, Steps, write_whole};
 use space_memory::Memory;
 use std::sync::ledger::Ledger;
-
-// How many bytes of lines are kept before they are written.
-const PIECE: usize = 65_536;
+use walk_text::write_piece;
 
 // Finds the next hit and appends its line; answers whether there was one. After a failure the text is as before.
 fn append_next<Y: Layer, L: Ledger>(
@@ -46,18 +44,6 @@ fn append_next<Y: Layer, L: Ledger>(
             Err(fault)
         }
     }
-}
-
-// Writes the lines that are kept where they are a whole piece.
-fn write_piece<O: Sink>(text: &mut Vec<u8>, out: &mut O) -> Result<(), SinkFault>
-    ensures written { WritesPiece (O.written out.old) (O.written out.new) text.old.items text.new.items result }
-    ensures cause { HasCause (O.faults out.old) (O.faults out.new) (IsErrOf result SinkFault.Failed) }
-{
-    if text.len() >= PIECE {
-        write_whole(out, text)?;
-        text.clear();
-    }
-    Ok(())
 }
 
 // Passes the next hit; answers whether there was one. Before a failure to find or to read it is answered, the lines of

@@ -2,6 +2,7 @@
 use Rattle.std.specs.Prelude.{ℕ, ◌-◌, List, ◌++◌, codes, Option, None, Some}
 use Rattle.std.specs.Fmt.{decimal}
 use Rattle.hex_text.specs.DumpRow.{address_cell}
+use Rattle.cell_text.specs.ErrorLine.{no_symbol_text}
 use Rattle.cell_text.specs.TextCell.{text_cell}
 use Rattle.cell_text.specs.TypeCell.{type_cell}
 use Rattle.isf_reader.specs.Table.{IsfTable}
@@ -16,10 +17,6 @@ type_or_none (Some of) = type_cell of
 -- a symbol's address and its type
 unfoldable pub symbol_row : Told → List ℕ
 symbol_row symbol = address_cell symbol.address ++ codes "\t" ++ type_or_none symbol.of ++ codes "\n"
-
--- that a name has no symbol
-unfoldable pub no_symbol_text : List ℕ → List ℕ
-no_symbol_text name = codes "error: no symbol " ++ text_cell name ++ codes "\n"
 
 abbrev pub symbol_or_none : List ℕ → Option Told → List ℕ
 symbol_or_none name None = no_symbol_text name

@@ -2,9 +2,10 @@
 ghost use Rattle.std.specs.Prelude.{◌≡◌, ◌++◌, OnOk, IfOk};
 ghost use Rattle.std.specs.Option.{option_copied};
 ghost use Rattle.symbol_index.specs.Index.{held, by_name, at_or_before};
-ghost use Rattle.symbol_texts.specs.Symbols.{type_or_none, symbol_row, no_symbol_text, symbol_or_none, near_row, near_or_none};
+ghost use Rattle.cell_text.specs.ErrorLine.{no_symbol_text};
+ghost use Rattle.symbol_texts.specs.Symbols.{type_or_none, symbol_row, symbol_or_none, near_row, near_or_none};
 
-use cell_text::{append_number, append_text, append_type};
+use cell_text::{append_no_symbol, append_number, append_text, append_type};
 use hex_text::append_address;
 use isf_reader::TypeRef;
 use std::alloc::{AllocError, Global};
@@ -31,14 +32,11 @@ fn symbol_row(alloc: Global, symbol: Entry<'_>) -> Result<Vec<u8>, AllocError>
     Ok(row)
 }
 
-#[tactic(auto, unfolding(crate::specs::Symbols::no_symbol_text))]
 fn no_symbol_text(alloc: Global, name: &[u8]) -> Result<Vec<u8>, AllocError>
     ensures { IfOk result (λ text. text.items ≡ no_symbol_text name.now) }
 {
     let mut text = Vec::new(alloc);
-    text.extend_from_slice(b"error: no symbol ")?;
-    append_text(&mut text, name)?;
-    text.push(b'\n')?;
+    append_no_symbol(&mut text, name)?;
     Ok(text)
 }
 

@@ -1,4 +1,4 @@
-use Rattle.std.proofs.Common.{◌<◌, ℕ, length, arith}
+use Rattle.std.proofs.Common.{arith}
 use Rattle.scan_text.proofs.BannerEnds.{before_end-first, before_end-none}
 use Rattle.scan_text.proofs.banner.before_end.Goals as goal
 

@@ -5,7 +5,7 @@ use Rattle.layer_base.proofs.Told.{IfSome-after}
 use Rattle.chunk_scanner.specs.State.{hits_left, KeepsTrue}
 use Rattle.space_memory.proofs.Memories.{IsSameMemory-trans}
 use Rattle.scan_text.proofs.Turns.{counted-more, rows-cut, rows-end}
-use Rattle.scan_text.proofs.Written.{WritesFront-trans}
+use Rattle.walk_text.proofs.Fronts.{WritesFront-trans}
 use Rattle.scan_text.proofs.rows.write_rows.Goals as goal
 
 pub returns-in_err-turn-clause-rows : goal.returns-in_err-turn-clause-rows

@@ -4,7 +4,7 @@ use Rattle.layer_base.specs.View.{physical}
 use Rattle.space_memory.specs.State.{IsSameMemory}
 use Rattle.chunk_scanner.specs.State.{hits_left, pairs_left, KeepsTrue}
 use Rattle.scan_text.specs.Rows.{most_count, rows_left}
-use Rattle.scan_text.specs.Written.{WritesFront}
+use Rattle.walk_text.specs.Front.{WritesFront}
 use Rattle.scan_text.proofs.rows.write_rows.Given as goal
 
 -- of all lines a front was written, and the hits that were passed are counted
