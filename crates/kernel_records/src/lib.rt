@@ -26,5 +26,5 @@ pub use need_groups::{
 pub use path_text::PathText;
 pub use rows::Rows;
 pub use stop::Stop;
-pub use task::{Task, TaskRows};
+pub use task::{Task, TaskRows, Tasks};
 pub use value::Value;

@@ -1,6 +1,6 @@
 //! Tasks.
 
-use crate::Rows;
+use crate::{Rows, Stop};
 use layer_base::{Name, Number};
 
 /// A task. What is absent in memory is none.
@@ -20,3 +20,10 @@ pub struct Task {
 
 /// A list of tasks.
 pub type TaskRows = Rows<Task>;
+
+/// The tasks that a walk found, and why it ended.
+#[derive(Debug, Drop)]
+pub struct Tasks {
+    pub rows: TaskRows,
+    pub stop: Stop,
+}

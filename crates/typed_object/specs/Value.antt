@@ -7,12 +7,12 @@
 --     5. An object is absent where a byte that it needs is, or lies behind the last address. A text needs its bytes up to
 --        the first zero byte; another array, a struct, a union, a class, void and a function need none.
 --     6. Else it has the value of its type.
-use Rattle.std.specs.Prelude.{ℕ, ℤ, pos, ◌^◌, Bool, nat_le, nat_lt, if◌then◌else◌, List, reverse, find, Option, None, Some, option_map, Result, Ok, Err}
+use Rattle.std.specs.Prelude.{ℕ, ◌^◌, Bool, nat_le, nat_lt, if◌then◌else◌, List, reverse, find, Option, None, Some, option_map, Result, Ok, Err}
 use Rattle.std.specs.Ordering.{int_eq}
 use Rattle.layer_base.specs.AddressSpace.{AddressSpace}
 use Rattle.layer_base.specs.Number.{low_word}
 use Rattle.layer_base.specs.declared.number.Number.{Number}
-use Rattle.layer_base.specs.declared.number.Number.TheVariants.{Unsigned, Signed}
+use Rattle.kernel_records.specs.Whole.{whole}
 use Rattle.kernel_records.specs.declared.value.Value.{Value}
 use Rattle.kernel_records.specs.declared.value.Value.TheVariants as values
 use Rattle.isf_reader.specs.Depth.{entry_named}
@@ -76,11 +76,6 @@ value_of_kind whole float kinds.Void = values.Void
 abbrev pub base_value : AddressSpace → ℕ → Result Number ObjectFault → Option BaseType → Value
 base_value memory at n None = values.Unknown
 base_value memory at n (Some base) = value_of_kind (value_by values.Number n) (float_value memory at base) base.kind
-
--- a number without regard to how it was read
-abbrev pub whole : Number → ℤ
-whole (Unsigned n) = pos n
-whole (Signed z) = z
 
 -- the first name that constants have for a number
 abbrev pub name_of : Number → List Constant → Option (List ℕ)

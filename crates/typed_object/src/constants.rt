@@ -2,7 +2,8 @@
 ghost use Rattle.std.specs.Prelude.{◌≡◌, find, IfOk};
 ghost use Rattle.std.specs.Option.{option_copied};
 ghost use Rattle.std.specs.Ordering.{int_eq};
-ghost use Rattle.typed_object.specs.Value.{whole, name_of};
+ghost use Rattle.kernel_records.specs.Whole.{whole};
+ghost use Rattle.typed_object.specs.Value.{name_of};
 
 use isf_reader::Constant;
 use layer_base::{Name, Number};
