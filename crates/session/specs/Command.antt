@@ -7,6 +7,7 @@ use Rattle.space_memory.specs.InSpace.{in_space}
 use Rattle.command_words.specs.declared.command.Command.{Command}
 use Rattle.command_words.specs.declared.command.Command.TheVariants as commands
 use Rattle.isf_reader.specs.Table.{IsfTable}
+use Rattle.kernel_find.specs.FoundText.{found_text}
 use Rattle.hex_text.specs.DumpRow.{address_cell, dump_text}
 use Rattle.object_text.specs.Object.{object_text}
 use Rattle.scan_text.specs.Banners.{banners_text}
@@ -15,7 +16,8 @@ use Rattle.symbol_texts.specs.Layout.{layout_text}
 use Rattle.symbol_texts.specs.Symbols.{symbol_text, near_text}
 use Rattle.session.specs.Evidence.{Evidence}
 use Rattle.session.specs.Fault.{unknown_text}
-use Rattle.session.specs.Place.{place_of, text_at}
+use Rattle.session.specs.Kernel.{found_in}
+use Rattle.session.specs.Place.{text_at}
 use Rattle.session.specs.Said.{Said, prints}
 use Rattle.session.specs.declared.place.Place.{Place}
 
@@ -39,6 +41,10 @@ translate_text memory place = translation_row place.at (translation memory place
 abbrev pub type_text : AddressSpace → IsfTable → List ℕ → List (List ℕ) → Place → List ℕ
 type_text memory table name path place = object_text (in_space memory place.space) table place.at name path
 
+-- the places of a needle among so many bytes from a place on
+abbrev pub hits_text : AddressSpace → ℕ → List ℕ → Place → List ℕ
+hits_text memory len needle place = scan_text (in_space memory place.space) place.at len needle
+
 -- a command that does not run yet
 abbrev pub not_yet : Said
 not_yet = prints unknown_text
@@ -47,14 +53,14 @@ not_yet = prints unknown_text
 unfoldable pub command_said : Evidence → Command → Said
 command_said evidence commands.Nothing = prints []
 command_said evidence commands.Quit = prints []
-command_said evidence (commands.Read space at len) = prints (text_at (place_of evidence space at len) (read_text evidence.memory len))
-command_said evidence (commands.Translate space at) = prints (text_at (place_of evidence space at 0) (translate_text evidence.memory))
-command_said evidence (commands.Show space at name path) = prints (text_at (place_of evidence space at 0) (type_text evidence.memory evidence.table name path))
+command_said evidence (commands.Read space at len) = prints (text_at evidence space at len (read_text evidence.memory len))
+command_said evidence (commands.Translate space at) = prints (text_at evidence space at 0 (translate_text evidence.memory))
+command_said evidence (commands.Show space at name path) = prints (text_at evidence space at 0 (type_text evidence.memory evidence.table name path))
 command_said evidence (commands.Layout name) = prints (layout_text evidence.table name)
 command_said evidence (commands.Symbol name) = prints (symbol_text evidence.table name)
 command_said evidence (commands.Near number) = prints (near_text evidence.table number)
 command_said evidence commands.Banners = prints (banners_text (in_space evidence.memory Phys))
-command_said evidence commands.Kernel = not_yet
+command_said evidence commands.Kernel = prints (found_text (found_in evidence))
 command_said evidence commands.Pslist = not_yet
 command_said evidence commands.Pstree = not_yet
 command_said evidence commands.Lsmod = not_yet
@@ -62,4 +68,4 @@ command_said evidence commands.CheckSyscall = not_yet
 command_said evidence (commands.Maps pid) = not_yet
 command_said evidence (commands.Lsof pid) = not_yet
 command_said evidence (commands.Dump space at len) = not_yet
-command_said evidence (commands.Scan space at len needle) = prints (text_at (place_of evidence space at len) (λ place. scan_text (in_space evidence.memory place.space) place.at len needle))
+command_said evidence (commands.Scan space at len needle) = prints (text_at evidence space at len (hits_text evidence.memory len needle))

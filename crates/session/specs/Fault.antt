@@ -7,6 +7,9 @@ use Rattle.command_words.specs.declared.fault.LineFault.TheVariants as faults
 abbrev pub unknown_text : List ℕ
 unknown_text = codes "error: unknown command\n"
 
+abbrev pub out_of_range_text : List ℕ
+out_of_range_text = codes "error: out of range\n"
+
 unfoldable pub wanted_text : ℕ → List ℕ
 wanted_text wanted = codes "error: wanted " ++ decimal wanted ++ codes " words\n"
 
@@ -17,5 +20,5 @@ fault_text (faults.Words wanted) = wanted_text wanted
 fault_text faults.SpaceName = codes "error: bad space\n"
 fault_text faults.Number = codes "error: bad number\n"
 fault_text faults.Hex = codes "error: bad hex\n"
-fault_text faults.Range = codes "error: out of range\n"
+fault_text faults.Range = out_of_range_text
 fault_text faults.Memory = []

@@ -3,6 +3,7 @@ pub mod Command
 pub mod Evidence
 pub mod Fault
 pub mod Headline
+pub mod Kernel
 pub mod Limits
 pub mod Line
 pub mod Lines
@@ -10,6 +11,7 @@ pub mod Outcome
 pub mod Place
 pub mod Ran
 pub mod Read
+pub mod Refusal
 pub mod Run
 pub mod Said
 pub mod Script

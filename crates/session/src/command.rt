@@ -7,20 +7,19 @@ ghost use Rattle.space_memory.specs.Writer.{WritesOver};
 ghost use Rattle.command_words.specs.Limits.{KeepsLimits};
 ghost use Rattle.session.specs.Command.{command_said};
 ghost use Rattle.session.specs.Evidence.{Evidence, evidence_at, evidence_in};
+ghost use Rattle.session.specs.Kernel.{KeepsKernel};
 ghost use Rattle.session.specs.Line.{line_said, is_quit, flow_of};
 ghost use Rattle.session.specs.Turn.{flow_after};
 
+use crate::at_place::{object_at, read_at, scan_at, translate_at};
 use crate::desk::Desk;
-use crate::error_line::{write_fault, write_refusal, write_unknown};
-use crate::place::place_of;
-use crate::read::write_read;
+use crate::error_line::{write_fault, write_unknown};
+use crate::kernel::write_kernel;
 use crate::status::CommandFault;
-use crate::translate::write_translation;
 use command_words::{Command, LineFault, parse_line};
 use kernel_records::PluginFault;
 use layer_base::{Layer, Sink, Steps, write_whole};
-use object_text::write_object;
-use scan_text::{write_banners, write_scan};
+use scan_text::write_banners;
 use std::sync::ledger::Ledger;
 use symbol_texts::{layout_text, near_text, symbol_text};
 
@@ -42,18 +41,20 @@ fn flow_of(command: &Command) -> Flow
 
 /// Writes what a line says, and answers whether the script goes on.
 pub(crate) fn run_line<Y: Layer, O: Sink, D: Sink, L: Ledger>(
-    desk: &mut Desk<'_, Y>,
+    desk: &mut Desk<'_, '_, Y>,
     line: &[u8],
     out: &mut O,
     dump: &mut D,
     steps: &mut Steps<L>,
 ) -> Result<Flow, CommandFault>
+    requires kept { KeepsKernel desk.old.memory.view desk.old.file.table.now desk.old.found }
     ensures text { IfSome desk.old.memory.view (λ view.
         Writes (O.written out.old) (O.written out.new) result (line_said (evidence_in view desk.old.file.table.now) line.now).text) }
     ensures dumped { IfSome desk.old.memory.view (λ view.
         Writes (D.written dump.old) (D.written dump.new) result (line_said (evidence_in view desk.old.file.table.now) line.now).dumped) }
     ensures flow { IfOk result (λ flow. flow ≡ flow_after is_quit line.now) }
     ensures memory { IsSameMemory desk.old.memory desk.new.memory }
+    ensures kept { KeepsKernel desk.new.memory.view desk.new.file.table.now desk.new.found }
     ensures file { desk.new.file ≡ desk.old.file }
     ensures image { HasCause desk.old.memory.faults desk.new.memory.faults (IsErrOf result CommandFault.Image) }
     ensures out { HasCause (O.faults out.old) (O.faults out.new) (IsErrOf result CommandFault.Out) }
@@ -74,15 +75,17 @@ pub(crate) fn run_line<Y: Layer, O: Sink, D: Sink, L: Ledger>(
 
 // Writes what a command says.
 fn run_command<Y: Layer, O: Sink, D: Sink, L: Ledger>(
-    desk: &mut Desk<'_, Y>,
+    desk: &mut Desk<'_, '_, Y>,
     command: &Command,
     out: &mut O,
     dump: &mut D,
     steps: &mut Steps<L>,
 ) -> Result<(), CommandFault>
-    requires { KeepsLimits command.now }
+    requires limits { KeepsLimits command.now }
+    requires kept { KeepsKernel desk.old.memory.view desk.old.file.table.now desk.old.found }
     ensures writes { WritesOver O.written O.faults out.old out.new desk.old.memory desk.new.memory CommandFault.Image CommandFault.Out result
         (λ memory. (command_said (evidence_at memory desk.old.file.table.now) command.now).text) }
+    ensures kept { KeepsKernel desk.new.memory.view desk.new.file.table.now desk.new.found }
     ensures file { desk.new.file ≡ desk.old.file }
     ensures dumped { IfSome desk.old.memory.view (λ view.
         Writes (D.written dump.old) (D.written dump.new) result (command_said (evidence_in view desk.old.file.table.now) command.now).dumped) }
@@ -95,49 +98,35 @@ fn run_command<Y: Layer, O: Sink, D: Sink, L: Ledger>(
 // Writes what a command prints that dumps nothing: one line for each command, as in `command_said`.
 #[tactic(auto, unfolding(crate::specs::Command::command_said))]
 fn write_command<Y: Layer, O: Sink, L: Ledger>(
-    desk: &mut Desk<'_, Y>,
+    desk: &mut Desk<'_, '_, Y>,
     command: &Command,
     out: &mut O,
     steps: &mut Steps<L>,
 ) -> Result<(), PluginFault>
-    requires { KeepsLimits command.now }
+    requires limits { KeepsLimits command.now }
+    requires kept { KeepsKernel desk.old.memory.view desk.old.file.table.now desk.old.found }
     ensures writes { WritesOver O.written O.faults out.old out.new desk.old.memory desk.new.memory PluginFault.Device PluginFault.Out result
         (λ memory. (command_said (evidence_at memory desk.old.file.table.now) command.now).text) }
+    ensures kept { KeepsKernel desk.new.memory.view desk.new.file.table.now desk.new.found }
     ensures file { desk.new.file ≡ desk.old.file }
     ensures dumped { (evidence : Evidence) → (command_said evidence command.now).dumped ≡ [] }
 {
     match command {
         Command::Nothing | Command::Quit => Ok(()),
-        Command::Read { space, at, len } => match place_of(*space, at, *len) {
-            Ok(place) => write_read(&mut desk.memory, &mut desk.page, place, *len, out, steps),
-            Err(refusal) => Ok(write_refusal(refusal, out)?),
-        },
-        Command::Translate { space, at } => match place_of(*space, at, 0) {
-            Ok(place) => write_translation(desk.alloc, &mut desk.memory, place, out, steps),
-            Err(refusal) => Ok(write_refusal(refusal, out)?),
-        },
+        Command::Read { space, at, len } => read_at(desk, *space, at, *len, out, steps),
+        Command::Translate { space, at } => translate_at(desk, *space, at, out, steps),
         Command::Show {
             space,
             at,
             name,
             path,
-        } => match place_of(*space, at, 0) {
-            Ok(place) => {
-                let (name, path) = (name.items(), path.items());
-                write_object(
-                    desk.alloc,
-                    desk.file.table,
-                    &mut desk.memory,
-                    place.space,
-                    place.at,
-                    name,
-                    path,
-                    out,
-                    steps,
-                )
-            }
-            Err(refusal) => Ok(write_refusal(refusal, out)?),
-        },
+        } => object_at(desk, *space, at, name.items(), path.items(), out, steps),
+        Command::Scan {
+            space,
+            at,
+            len,
+            needle,
+        } => scan_at(desk, *space, at, *len, needle.items(), out, steps),
         Command::Layout { name } => Ok(write_whole(
             out,
             &layout_text(desk.alloc, desk.file.table, name.items())?,
@@ -145,33 +134,15 @@ fn write_command<Y: Layer, O: Sink, L: Ledger>(
         Command::Symbol { name } => {
             Ok(write_whole(
                 out,
-                &symbol_text(desk.alloc, &desk.file.symbols, name.items())?,
+                &symbol_text(desk.alloc, desk.file.symbols, name.items())?,
             )?)
         }
         Command::Near { number } => {
-            Ok(write_whole(out, &near_text(desk.alloc, &desk.file.symbols, *number)?)?)
+            Ok(write_whole(out, &near_text(desk.alloc, desk.file.symbols, *number)?)?)
         }
         Command::Banners => write_banners(desk.alloc, &mut desk.memory, out, steps),
-        Command::Scan {
-            space,
-            at,
-            len,
-            needle,
-        } => match place_of(*space, at, *len) {
-            Ok(place) => write_scan(
-                desk.alloc,
-                &mut desk.memory,
-                place.space,
-                place.at,
-                *len,
-                needle.items(),
-                out,
-                steps,
-            ),
-            Err(refusal) => Ok(write_refusal(refusal, out)?),
-        },
-        Command::Kernel
-        | Command::Pslist
+        Command::Kernel => write_kernel(desk, out, steps),
+        Command::Pslist
         | Command::Pstree
         | Command::Lsmod
         | Command::CheckSyscall

@@ -33,6 +33,7 @@ use layer_base::{Kind, Layer, Sink, Source, Steps, write_whole};
 use space_memory::Memory;
 use std::alloc::Global;
 use std::sync::ledger::Ledger;
+use symbol_index::Symbols;
 
 /// How a run ended, and the layer that it was given.
 #[derive(Drop)]
@@ -51,7 +52,7 @@ const USAGE: &[u8] = b"usage: memlens IMAGE SYMBOLS [DUMP] [--cache N] [--chunk 
 fn run_file<Y: Layer, S: Source, O: Sink, D: Sink, L: Ledger>(
     alloc: Global,
     image: Y,
-    file: SymbolFile<'_>,
+    file: SymbolFile<'_, '_>,
     script: &mut S,
     out: &mut O,
     dump: &mut D,
@@ -72,6 +73,7 @@ fn run_file<Y: Layer, S: Source, O: Sink, D: Sink, L: Ledger>(
                 memory,
                 file,
                 page: Page::new(alloc),
+                found: None,
             };
             let status = run_script(&mut desk, script, out, dump, steps);
             (status, desk.memory.into_layer())
@@ -99,8 +101,16 @@ fn run_table<Y: Layer, S: Source, O: Sink, D: Sink, L: Ledger>(
     ensures layer { IsSameLayer Y.view Y.kind Y.faults Y.calls image result.1 }
     ensures causes { FaultsHaveCause (Y.faults image) (Y.faults result.1) (S.faults script.old) (S.faults script.new) (O.faults out.old) (O.faults out.new) (D.faults dump.old) (D.faults dump.new) result.0 }
 {
-    match SymbolFile::of(alloc, table) {
-        Ok(file) => run_file(alloc, image, file, script, out, dump, steps),
+    match Symbols::of(alloc, table) {
+        Ok(symbols) => run_file(
+            alloc,
+            image,
+            SymbolFile::of(table, &symbols),
+            script,
+            out,
+            dump,
+            steps,
+        ),
         Err(_) => (Status::Memory, image),
     }
 }
@@ -235,9 +245,10 @@ fn run_over<Y: Layer, J: Source, S: Source, O: Sink, D: Sink, L: Ledger>(
 /// The words are those of the command line. Where they are accepted, the formats are tried on the image in their
 /// order, and the first that it is of is attached; an image of none of them is read as it is. The symbol file is taken
 /// to its end, or until one byte more was taken than it may have, and read as a table. The script is taken one byte at a
-/// time, and a line is run before the next is read; the bytes behind the newline of a `quit` are left to the caller. What
-/// its lines dump goes to the dump's file; no command dumps anything yet. A refusal of the words, of the image, of the
-/// symbol file, or of a script that is too long, is a line of the text.
+/// time, and a line is run before the next is read; the bytes behind the newline of a `quit` are left to the caller. The
+/// kernel is searched for the first line that needs it, and what that came to is kept for the others. What the lines dump
+/// goes to the dump's file; no command dumps anything yet. A refusal of the words, of the image, of the symbol file, or of
+/// a script that is too long, is a line of the text.
 ///
 /// The clauses on content hold where the image, the symbol file and the script tell what they hold, and those on a
 /// sink where it tells what was written. When `Memory` comes is left open.

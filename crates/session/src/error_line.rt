@@ -3,9 +3,7 @@ ghost use Rattle.std.specs.Prelude.{◌≡◌, string_bytes, IsErrOf, IfOk};
 ghost use Rattle.layer_base.specs.Counts.{HasCause};
 ghost use Rattle.layer_base.specs.Known.{Writes};
 ghost use Rattle.session.specs.Fault.{wanted_text, unknown_text, fault_text};
-ghost use Rattle.session.specs.Place.{refusal_text};
 
-use crate::place::{NoPlace, refusal_line};
 use command_words::LineFault;
 use layer_base::{Sink, SinkFault, write_whole};
 use std::alloc::{AllocError, Global};
@@ -55,12 +53,4 @@ pub(crate) fn write_unknown<O: Sink>(out: &mut O) -> Result<(), SinkFault>
     ensures cause { HasCause (O.faults out.old) (O.faults out.new) (IsErrOf result SinkFault.Failed) }
 {
     write_whole(out, b"error: unknown command\n")
-}
-
-/// Writes the error line of a command that has no place.
-pub(crate) fn write_refusal<O: Sink>(refusal: NoPlace, out: &mut O) -> Result<(), SinkFault>
-    ensures text { Writes (O.written out.old) (O.written out.new) result (refusal_text refusal) }
-    ensures cause { HasCause (O.faults out.old) (O.faults out.new) (IsErrOf result SinkFault.Failed) }
-{
-    write_whole(out, refusal_line(refusal))
 }

@@ -1,10 +1,20 @@
 //! The places that a line names.
-ghost use Rattle.std.specs.Prelude.{◌≡◌, ◌+◌, ◌^◌, ◌≤◌, IfOk};
-ghost use Rattle.command_words.specs.Limits.{EndsInRange};
-ghost use Rattle.session.specs.Place.{space_of, address_of, at_address, refusal_text};
+ghost use Rattle.std.specs.Prelude.{◌≡◌, ◌+◌, ◌^◌, ◌≤◌, IfOk, IfSome, IsErrOf};
+ghost use Rattle.layer_base.specs.Counts.{HasCause};
+ghost use Rattle.space_memory.specs.State.{IsSameMemory};
+ghost use Rattle.session.specs.Evidence.{evidence_in};
+ghost use Rattle.session.specs.Kernel.{KeepsKernel};
+ghost use Rattle.session.specs.Place.{space_of, address_of, in_range, place_of};
+ghost use Rattle.session.specs.Refusal.{AnswersAs};
 
+use crate::desk::Desk;
+use crate::kernel::kernel_of;
+use crate::refusal::{CommandRefusal, NotRun};
 use command_words::{AddrWord, SpaceWord};
-use layer_base::Space;
+use kernel_records::WalkFault;
+use layer_base::{Layer, Name, Space, Steps};
+use std::alloc::{AllocError, Global};
+use std::sync::ledger::Ledger;
 
 /// An address in a space.
 #[derive(Clone, Copy, Debug)]
@@ -13,49 +23,95 @@ pub(crate) struct Place {
     pub(crate) at: u64,
 }
 
-/// Why a command has no place.
-#[derive(Clone, Copy, Debug, PartialEq, Eq)]
-pub(crate) enum NoPlace {
-    /// The kernel is needed, which is not looked for yet.
-    NotYet,
-}
+const END: u128 = 1 << 64;
 
-fn space_of(word: SpaceWord) -> Result<Space, NoPlace>
-    ensures { result ≡ space_of word }
+#[tactic(auto, unfolding(crate::specs::Place::space_of))]
+fn space_of<Y: Layer, L: Ledger>(
+    desk: &mut Desk<'_, '_, Y>,
+    word: SpaceWord,
+    steps: &mut Steps<L>,
+) -> Result<Space, NotRun>
+    requires kept { KeepsKernel desk.old.memory.view desk.old.file.table.now desk.old.found }
+    ensures space { IfSome desk.old.memory.view (λ view. AnswersAs (space_of (evidence_in view desk.old.file.table.now) word) result) }
+    ensures kept { KeepsKernel desk.new.memory.view desk.new.file.table.now desk.new.found }
+    ensures file { desk.new.file ≡ desk.old.file }
+    ensures memory { IsSameMemory desk.old.memory desk.new.memory }
+    ensures cause { HasCause desk.old.memory.faults desk.new.memory.faults (IsErrOf result (NotRun.Fault WalkFault.Device)) }
 {
     match word {
         SpaceWord::Phys => Ok(Space::Phys),
+        SpaceWord::Kernel => {
+            let kernel = kernel_of(desk, steps)?;
+            Ok(desk.file.ground(kernel).space())
+        }
+        SpaceWord::Task(_) => Err(NotRun::Refused(CommandRefusal::NotYet)),
         SpaceWord::Root { root, levels } => Ok(Space::paged(root, levels)),
-        SpaceWord::Kernel | SpaceWord::Task(_) => Err(NoPlace::NotYet),
     }
 }
 
-fn address_of(word: &AddrWord) -> Result<u64, NoPlace>
-    ensures { result ≡ address_of word.now }
+// That no symbol has a name.
+fn no_symbol(alloc: Global, name: &[u8]) -> Result<CommandRefusal, AllocError>
+    ensures { IfOk result (λ refusal. refusal ≡ CommandRefusal.NoSymbol name.now) }
+{
+    let name = Vec::from_slice(alloc, name)?;
+    Ok(CommandRefusal::NoSymbol(Name::from(name)))
+}
+
+#[tactic(auto, unfolding(crate::specs::Place::address_of))]
+fn address_of<Y: Layer, L: Ledger>(
+    desk: &mut Desk<'_, '_, Y>,
+    word: &AddrWord,
+    steps: &mut Steps<L>,
+) -> Result<u64, NotRun>
+    requires kept { KeepsKernel desk.old.memory.view desk.old.file.table.now desk.old.found }
+    ensures address { IfSome desk.old.memory.view (λ view. AnswersAs (address_of (evidence_in view desk.old.file.table.now) word.now) result) }
+    ensures kept { KeepsKernel desk.new.memory.view desk.new.file.table.now desk.new.found }
+    ensures file { desk.new.file ≡ desk.old.file }
+    ensures memory { IsSameMemory desk.old.memory desk.new.memory }
+    ensures cause { HasCause desk.old.memory.faults desk.new.memory.faults (IsErrOf result (NotRun.Fault WalkFault.Device)) }
 {
     match word {
         AddrWord::Number(at) => Ok(*at),
-        AddrWord::Symbol(_) => Err(NoPlace::NotYet),
+        AddrWord::Symbol(name) => {
+            let kernel = kernel_of(desk, steps)?;
+            match desk.file.ground(kernel).symbol_address(name.items()) {
+                Some(at) => Ok(kernel.shifted(at)),
+                None => Err(NotRun::Refused(no_symbol(desk.alloc, name.items())?)),
+            }
+        }
     }
 }
 
-/// The place of so many bytes from an address of a space on, or why there is none. It looks at no evidence yet, since
-/// whatever needs the kernel is refused.
-pub(crate) fn place_of(space: SpaceWord, at: &AddrWord, len: u64) -> Result<Place, NoPlace>
-    ensures place { result ≡ at_address (space_of space) (address_of at.now) }
-    ensures range { IfOk result (λ place. EndsInRange at.now len → place.at + len ≤ 2 ^ 64) }
+// An address in a space, unless so many bytes from it on pass the last address.
+fn in_range(len: u64, space: Space, at: u64) -> Result<Place, CommandRefusal>
+    ensures place { result ≡ in_range len space at }
+    ensures range { IfOk result (λ place. place.at + len ≤ 2 ^ 64) }
 {
-    Ok(Place {
-        space: space_of(space)?,
-        at: address_of(at)?,
-    })
+    if u128::from(at) + u128::from(len) <= END {
+        Ok(Place { space, at })
+    } else {
+        Err(CommandRefusal::OutOfRange)
+    }
 }
 
-/// The error line of a command that has no place.
-pub(crate) fn refusal_line(refusal: NoPlace) -> &'static [u8]
-    ensures { result.now ≡ refusal_text refusal }
+/// The place of so many bytes from an address of a space on, or why there is none.
+#[tactic(auto, unfolding(crate::specs::Place::place_of))]
+pub(crate) fn place_of<Y: Layer, L: Ledger>(
+    desk: &mut Desk<'_, '_, Y>,
+    space: SpaceWord,
+    at: &AddrWord,
+    len: u64,
+    steps: &mut Steps<L>,
+) -> Result<Place, NotRun>
+    requires kept { KeepsKernel desk.old.memory.view desk.old.file.table.now desk.old.found }
+    ensures place { IfSome desk.old.memory.view (λ view. AnswersAs (place_of (evidence_in view desk.old.file.table.now) space at.now len) result) }
+    ensures range { IfOk result (λ place. place.at + len ≤ 2 ^ 64) }
+    ensures kept { KeepsKernel desk.new.memory.view desk.new.file.table.now desk.new.found }
+    ensures file { desk.new.file ≡ desk.old.file }
+    ensures memory { IsSameMemory desk.old.memory desk.new.memory }
+    ensures cause { HasCause desk.old.memory.faults desk.new.memory.faults (IsErrOf result (NotRun.Fault WalkFault.Device)) }
 {
-    match refusal {
-        NoPlace::NotYet => b"error: unknown command\n",
-    }
+    let space = space_of(desk, space, steps)?;
+    let at = address_of(desk, at, steps)?;
+    Ok(in_range(len, space, at)?)
 }

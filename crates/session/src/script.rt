@@ -7,6 +7,7 @@ ghost use Rattle.space_memory.specs.State.{IsSameMemory};
 ghost use Rattle.session.specs.Causes.{FaultsHaveCause};
 ghost use Rattle.session.specs.Evidence.{evidence_in};
 ghost use Rattle.session.specs.Headline.{GaveAtMost};
+ghost use Rattle.session.specs.Kernel.{KeepsKernel};
 ghost use Rattle.session.specs.Limits.{most_script};
 ghost use Rattle.session.specs.Line.{line_said, is_quit};
 ghost use Rattle.session.specs.Ran.{IsScriptEnd, RanOver};
@@ -40,13 +41,14 @@ fn take_byte<S: Source>(script: &mut S) -> Result<Option<u8>, Failed>
 
 // Takes a byte into the line, or runs the line that it ends. Answers whether the script goes on.
 fn take_in<Y: Layer, O: Sink, D: Sink, L: Ledger>(
-    desk: &mut Desk<'_, Y>,
+    desk: &mut Desk<'_, '_, Y>,
     line: &mut LineBuffer,
     byte: u8,
     out: &mut O,
     dump: &mut D,
     steps: &mut Steps<L>,
 ) -> Result<Flow, CommandFault>
+    requires kept { KeepsKernel desk.old.memory.view desk.old.file.table.now desk.old.found }
     ensures text { IfSome desk.old.memory.view (λ view.
         Writes (O.written out.old) (O.written out.new) result (turn_part (text_part (line_said (evidence_in view desk.old.file.table.now))) line.old byte)) }
     ensures dumped { IfSome desk.old.memory.view (λ view.
@@ -54,6 +56,7 @@ fn take_in<Y: Layer, O: Sink, D: Sink, L: Ledger>(
     ensures flow { IfOk result (λ flow. flow ≡ turn_flow is_quit line.old byte) }
     ensures line { OnOk result (line.new ≡ turn_line line.old byte) }
     ensures memory { IsSameMemory desk.old.memory desk.new.memory }
+    ensures kept { KeepsKernel desk.new.memory.view desk.new.file.table.now desk.new.found }
     ensures file { desk.new.file ≡ desk.old.file }
     ensures image { HasCause desk.old.memory.faults desk.new.memory.faults (IsErrOf result CommandFault.Image) }
     ensures out { HasCause (O.faults out.old) (O.faults out.new) (IsErrOf result CommandFault.Out) }
@@ -70,17 +73,19 @@ fn take_in<Y: Layer, O: Sink, D: Sink, L: Ledger>(
 
 // Runs the line that lacks its newline, if there is one.
 fn run_rest<Y: Layer, O: Sink, D: Sink, L: Ledger>(
-    desk: &mut Desk<'_, Y>,
+    desk: &mut Desk<'_, '_, Y>,
     line: &LineBuffer,
     out: &mut O,
     dump: &mut D,
     steps: &mut Steps<L>,
 ) -> Result<(), CommandFault>
+    requires kept { KeepsKernel desk.old.memory.view desk.old.file.table.now desk.old.found }
     ensures text { IfSome desk.old.memory.view (λ view.
         Writes (O.written out.old) (O.written out.new) result (rest_part (text_part (line_said (evidence_in view desk.old.file.table.now))) line.now)) }
     ensures dumped { IfSome desk.old.memory.view (λ view.
         Writes (D.written dump.old) (D.written dump.new) result (rest_part (dump_part (line_said (evidence_in view desk.old.file.table.now))) line.now)) }
     ensures memory { IsSameMemory desk.old.memory desk.new.memory }
+    ensures kept { KeepsKernel desk.new.memory.view desk.new.file.table.now desk.new.found }
     ensures file { desk.new.file ≡ desk.old.file }
     ensures image { HasCause desk.old.memory.faults desk.new.memory.faults (IsErrOf result CommandFault.Image) }
     ensures out { HasCause (O.faults out.old) (O.faults out.new) (IsErrOf result CommandFault.Out) }
@@ -95,12 +100,13 @@ fn run_rest<Y: Layer, O: Sink, D: Sink, L: Ledger>(
 /// Runs the lines of a script, one after another through the first `quit`, and writes what they print and dump.
 #[tactic(auto, using(crate::proofs::AtMost::gave_none, crate::proofs::AtMost::gave_more))]
 pub(crate) fn run_script<Y: Layer, S: Source, O: Sink, D: Sink, L: Ledger>(
-    desk: &mut Desk<'_, Y>,
+    desk: &mut Desk<'_, '_, Y>,
     script: &mut S,
     out: &mut O,
     dump: &mut D,
     steps: &mut Steps<L>,
 ) -> Status
+    requires kept { KeepsKernel desk.old.memory.view desk.old.file.table.now desk.old.found }
     ensures ran { IfSome desk.old.memory.view (λ view. IfSome (S.left script.old) (λ bytes.
         RanOver (line_said (evidence_in view desk.old.file.table.now)) (script_run (line_said (evidence_in view desk.old.file.table.now)) is_quit bytes) bytes (S.left script.new)
         (O.written out.old) (O.written out.new) (D.written dump.old) (D.written dump.new) result)) }

@@ -122,6 +122,7 @@ fn set<R: Files + Alloc<A = Global>>(
 fn set_input(alloc: Global, case: &mut Case, word: &str, rest: &str) -> Result<bool> {
     match word {
         "symbols" => add_symbols(alloc, case, rest)?,
+        "replace" => replace_symbols(alloc, case, rest)?,
         "value" => case.values.push(bytes_of(alloc, rest)?)?,
         "words" => case.words = Some(words_of_line(alloc, rest)?),
         "status" => case.status = u8::try_from(number_of(rest)?).ok().context("no status")?,
@@ -183,6 +184,29 @@ fn add_symbols(alloc: Global, case: &mut Case, text: &str) -> Result<()> {
     }
     symbols.extend_from_slice(&bytes_of(alloc, text)?)?;
     case.symbols = Some(symbols);
+    Ok(())
+}
+
+// Puts a text into the place of each occurrence of another in the symbol file, which must occur there.
+fn replace_symbols(alloc: Global, case: &mut Case, rest: &str) -> Result<()> {
+    let (old, new) = first_word(rest);
+    let (old, new) = (bytes_of(alloc, old)?, bytes_of(alloc, new)?);
+    let symbols = case.symbols.take().context("no symbol file")?;
+    let mut replaced = Vec::new(alloc);
+    let mut behind = 0usize;
+    for (place, byte) in symbols.iter().enumerate() {
+        if place < behind {
+            continue;
+        }
+        if symbols[place..].starts_with(&old) {
+            replaced.extend_from_slice(&new)?;
+            behind = place.saturating_add(old.len());
+        } else {
+            replaced.push(*byte)?;
+        }
+    }
+    ensure!(behind > 0, "not in the symbol file: {rest}");
+    case.symbols = Some(replaced);
     Ok(())
 }
 

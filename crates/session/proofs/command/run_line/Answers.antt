@@ -8,6 +8,7 @@ returns-in_err-write_fault-in-Err g c = record {
   dumped = grind (arith, common_steps);
   flow = search rules;
   memory = search rules;
+  kept = search rules;
   file = search rules;
   image = grind (arith, common_steps);
   out = grind (arith, common_steps);

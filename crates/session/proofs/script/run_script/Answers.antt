@@ -55,6 +55,7 @@ loop-preserved g c =
           Underway-next (line_said (over view)) is_quit (line-clips (over view)) bytes _ _ _ _ _ _ _ _ c.loop.line c.take_in.new.line c.loop.counter c.in-Ok-Some.byte underway taken printed dumped c.in-Ok-NextLine.ensures.line (sym c.in-Ok-NextLine.field-0-is ∙ c.in-Ok-NextLine.ensures.flow)));
       most = gave_more c.loop.counter 1 (c.loop.counter + 1) _ _ _ c.loop.invariant.most c.take_byte.ensures.most (omega arith);
       memory = IsSameMemory-trans _ _ _ c.loop.invariant.memory c.take_in.ensures.memory;
+      kept = c.take_in.ensures.kept;
       file = c.take_in.ensures.file ∙ c.loop.invariant.file;
       script = omega (arith, c.loop.invariant.script, c.take_byte.ensures.cause.kept);
       out = omega (arith, c.loop.invariant.out, c.take_in.ensures.out.kept);
