@@ -1,0 +1,7 @@
+pub mod Cell
+pub mod Path
+pub mod Places
+pub mod Special
+pub mod Spots
+pub mod Turn
+pub mod Way
