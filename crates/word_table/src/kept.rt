@@ -1,5 +1,5 @@
 //! Words that were read and are given one by one.
-ghost use Rattle.std.specs.Prelude.{◌≡◌, ◌*◌, ◌+◌, ◌^◌, ◌≤◌, [], true, false, length, IsErr, IfSome, OnOk, OnErr};
+ghost use Rattle.std.specs.Prelude.{◌≡◌, ◌*◌, ◌+◌, ◌^◌, ◌≤◌, [], ◌∷◌, true, false, length, Some, IsErr, IfSome, OnOk, OnErr};
 ghost use Rattle.layer_base.specs.Counts.{HasCause};
 ghost use Rattle.layer_base.specs.View.{physical};
 ghost use Rattle.space_memory.specs.InSpace.{in_space};
@@ -56,6 +56,20 @@ impl Kept {
         let word = self.words[self.start];
         self.start += 1;
         Some(word)
+    }
+
+    /// Takes the first word that is kept where it is this one, and tells whether it is.
+    pub(crate) fn take_same(&mut self, word: u64) -> bool
+        requires { IsKept self.old }
+        ensures yes { result ≡ true → kept_words self.old ≡ Some word ∷ kept_words self.new }
+        ensures no { result ≡ false → kept_words self.new ≡ kept_words self.old }
+        ensures kept { IsKept self.new }
+    {
+        if self.start == self.end || self.words[self.start] != Some(word) {
+            return false;
+        }
+        self.start += 1;
+        true
     }
 
     /// Reads words from an address on in the place of those that are kept: at least one, and at most so many. After a

@@ -1,5 +1,5 @@
 //! The words of a table, one by one.
-ghost use Rattle.std.specs.Prelude.{◌≡◌, ◌≤◌, [], IsErr, IfOk, IfSome, OnOk, OnErr};
+ghost use Rattle.std.specs.Prelude.{◌≡◌, ◌≤◌, [], ◌∷◌, Some, IsErr, IfOk, IfSome, IfNone, OnOk, OnErr};
 ghost use Rattle.layer_base.specs.AddressSpace.{AddressSpace};
 ghost use Rattle.layer_base.specs.Counts.{HasCause};
 ghost use Rattle.layer_base.specs.View.{physical};
@@ -125,5 +125,27 @@ impl Slots {
         let at = self.table.base + 8 * index;
         self.index += 1;
         Ok(Some(Slot { index, at, word }))
+    }
+
+    /// Gives the next word where it was read already and is this one, else None, and then nothing is given. It reads
+    /// nothing and takes no memory.
+    pub fn next_same(&mut self, word: u64) -> Option<Slot>
+        ensures words { (memory : AddressSpace) → IfSome result (λ slot. words_left memory self.old ≡ Some word ∷ words_left memory self.new) }
+        ensures index { GivesIndex self.old self.new result }
+        ensures none { IfNone result (self.new ≡ self.old) }
+        ensures space { self.new.space ≡ self.old.space }
+        ensures table { self.new.table ≡ self.old.table }
+    {
+        if !self.kept.take_same(word) {
+            return None;
+        }
+        let index = self.index;
+        let at = self.table.base + 8 * index;
+        self.index += 1;
+        Some(Slot {
+            index,
+            at,
+            word: Some(word),
+        })
     }
 }
