@@ -1,0 +1,4 @@
+pub mod Modules
+pub mod Places
+pub mod Size
+pub mod Syscalls
