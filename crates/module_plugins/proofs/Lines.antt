@@ -1,5 +1,5 @@
 -- How the rows of words come one by one.
-use Rattle.std.proofs.Common.{◌≡◌, ℕ, ◌+◌, List, [], ◌∷◌, ◌++◌, Option, refl, sym, ap, ◌∙◌, append_assoc}
+use Rattle.std.proofs.Common.{◌≡◌, ℕ, ◌+◌, List, [], ◌∷◌, ◌++◌, Option, sym, ap, ◌∙◌, append_assoc}
 use Rattle.word_table.specs.Rows.{rows_from}
 
 module _ (row : ℕ → Option ℕ → List ℕ) (end : List ℕ) where

@@ -2,6 +2,7 @@
 ghost use Rattle.std.specs.Prelude.{◌≡◌, ◌++◌, option_map, IfSome, OnOk, OnErr};
 ghost use Rattle.std.specs.Io.{StartsWith};
 ghost use Rattle.std.specs.Option.{option_copied};
+ghost use Rattle.layer_base.specs.declared.number.Number.TheVariants.{Unsigned};
 ghost use Rattle.space_memory.specs.Writer.{WritesOver};
 ghost use Rattle.type_layout.specs.Member.{spot};
 ghost use Rattle.typed_object.specs.Ground.{kernel_memory, kernel_space};
@@ -38,6 +39,12 @@ fn bytes_of(name: &Option<Name>) -> Option<&[u8]>
     }
 }
 
+fn unsigned(size: Option<u64>) -> Option<Number>
+    ensures { result ≡ option_map Unsigned size }
+{
+    Some(Number::Unsigned(u128::from(size?)))
+}
+
 // Appends the address, the name and the size of a module.
 fn append_module(
     text: &mut Vec<u8>,
@@ -52,7 +59,7 @@ fn append_module(
     text.push(b'\t')?;
     append_optional_text(text, name)?;
     text.push(b'\t')?;
-    append_optional_number(text, size.map(|size| Number::Unsigned(u128::from(size))))?;
+    append_optional_number(text, unsigned(size))?;
     text.push(b'\n')?;
     Ok(())
 }

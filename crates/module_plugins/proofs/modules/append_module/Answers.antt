@@ -1,4 +1,4 @@
-use Rattle.std.proofs.Common.{◌∙◌, codes}
+use Rattle.std.proofs.Common.{◌++◌, ap, ◌∙◌, codes}
 use Rattle.std.specs.Prelude.{option_map}
 use Rattle.std.specs.Option.{option_copied}
 use Rattle.layer_base.specs.declared.number.Number.TheVariants.{Unsigned}
@@ -19,4 +19,4 @@ returns-in_err-append_optional_number-clause-err c =
 pub returns-clause-ok : goal.returns-clause-ok
 returns-clause-ok c =
     six-joined c.args.text.now.items _ _ _ _ _ _ (address_cell c.args.at) (codes "\t") (optional_text_cell (option_copied c.args.name)) (codes "\t") (optional_number_cell (option_map Unsigned c.args.size)) (codes "\n")
-    c.in_ok-append_address.ensures.ok c.in_ok-push.ensures.items c.in_ok-append_optional_text.ensures.ok c.in_ok-push-2.ensures.items c.in_ok-append_optional_number.ensures.ok c.in_ok-push-3.ensures.items
+    c.in_ok-append_address.ensures.ok c.in_ok-push.ensures.items c.in_ok-append_optional_text.ensures.ok c.in_ok-push-2.ensures.items (c.in_ok-append_optional_number.ensures.ok ∙ ap (λ number. c.push-2.new.self.items ++ optional_number_cell number) c.unsigned.ensures) c.in_ok-push-3.ensures.items

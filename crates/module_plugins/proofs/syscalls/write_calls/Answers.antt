@@ -1,4 +1,4 @@
-use Rattle.std.proofs.Common.{◌≡◌, ℕ, List, ◌++◌, Option, subst, codes, ap, ◌∙◌}
+use Rattle.std.proofs.Common.{◌≡◌, ℕ, List, ◌++◌, subst, codes, ap, ◌∙◌}
 use Rattle.layer_base.specs.AddressSpace.{AddressSpace}
 use Rattle.kernel_records.specs.declared.fault.PluginFault.TheVariants.{Device, Out}
 use Rattle.space_memory.specs.InSpace.{in_space}
