@@ -4,6 +4,7 @@
 mod by_pid;
 mod cells;
 mod listed;
+mod no_lines;
 mod pslist;
 mod reader;
 mod ring;

@@ -45,10 +45,31 @@ fn read_tasks<Y: Layer, L: Ledger>(
     }
 }
 
+/// The tasks of a kernel, whatever names its symbol file lacks, and why their ring ended.
+#[tactic(auto, unfolding(crate::specs::Tasks::tasks, crate::specs::Tasks::task_stop))]
+pub(crate) fn all_tasks<Y: Layer, L: Ledger>(
+    alloc: Global,
+    ground: Ground<'_, '_>,
+    memory: &mut Memory<Y>,
+    steps: &mut Steps<L>,
+) -> Result<kernel_records::Tasks, WalkFault>
+    ensures rows { IfSome memory.old.view (λ view. IfOk result (λ found. found.rows ≡ lists.tasks (physical view) ground.entry.table.now ground.entry.kernel)) }
+    ensures stop { IfSome memory.old.view (λ view. IfOk result (λ found. found.stop ≡ lists.task_stop (physical view) ground.entry.table.now ground.entry.kernel)) }
+    ensures memory { IsSameMemory memory.old memory.new }
+    ensures cause { HasCause memory.old.faults memory.new.faults (IsErrOf result WalkFault.Device) }
+{
+    match task_walk(alloc, ground) {
+        Ok(mut walk) => read_tasks(alloc, TaskReader::of(ground), &mut walk, memory, steps),
+        Err(stop) => Ok(kernel_records::Tasks {
+            rows: Rows::new(alloc),
+            stop,
+        }),
+    }
+}
+
 /// The tasks of a kernel in the order of their ring, and why it ended. The kernel's first task, in which the ring's head
 /// stands, is not listed. `Missing` comes exactly where the symbol file lacks a name that is needed, and tells the first
 /// one; `Device` comes only where a call on the image failed.
-#[tactic(auto, unfolding(crate::specs::Tasks::tasks, crate::specs::Tasks::task_stop))]
 pub fn tasks<Y: Layer, L: Ledger>(
     alloc: Global,
     ground: Ground<'_, '_>,
@@ -64,11 +85,5 @@ pub fn tasks<Y: Layer, L: Ledger>(
     if let Some(need) = ground.first_missing(task_needs()) {
         return Err(TaskFault::Missing { need });
     }
-    match task_walk(alloc, ground) {
-        Ok(mut walk) => Ok(read_tasks(alloc, TaskReader::of(ground), &mut walk, memory, steps)?),
-        Err(stop) => Ok(kernel_records::Tasks {
-            rows: Rows::new(alloc),
-            stop,
-        }),
-    }
+    Ok(all_tasks(alloc, ground, memory, steps)?)
 }
