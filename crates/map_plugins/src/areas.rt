@@ -38,12 +38,10 @@ fn task_areas(
     ensures walk { result ≡ task_areas ground.entry.table.now ground.entry.kernel task descriptor }
     ensures space { IfOk result (λ walk. walk.space ≡ kernel_space ground.entry.kernel) }
 {
+    let mm = ground.needed_member(Need::TaskStructMm);
     match descriptor {
-        Some(mm) => area_walk(alloc, ground, mm),
-        None => Err(absent_stop(
-            ground.needed_member(Need::TaskStructMm),
-            task,
-        )),
+        Some(descriptor) => area_walk(alloc, ground, descriptor),
+        None => Err(absent_stop(mm, task)),
     }
 }
 
