@@ -8,7 +8,6 @@ use Rattle.kernel_records.specs.declared.area.Area.{Area}
 use Rattle.kernel_records.specs.declared.kernel.Kernel.{Kernel}
 use Rattle.cell_text.specs.OptionalCell.{optional_address_cell, optional_number_cell}
 use Rattle.path_walk.specs.Cell.{file_path_cell}
-use Rattle.vma_walk.specs.Area.{AreaMembers, area_at}
 use Rattle.map_plugins.specs.Flags.{flags_cell}
 
 -- the low 64 bits of a number as an address
@@ -20,15 +19,12 @@ abbrev pub path_cell : AddressSpace → IsfTable → Kernel → Option ℕ → L
 path_cell memory table kernel None = codes "-"
 path_cell memory table kernel (Some file) = if file == 0 then codes "[anon]" else file_path_cell memory table kernel file
 
--- where an area begins and ends, what may be done with it, and how many pages into its file it begins
+-- where an area begins and ends, what may be done with it, and how many pages into its file it begins, each with a tab
+-- behind it
 abbrev pub area_cells : Area → List ℕ
 area_cells area =
-    bound_cell area.start ++ codes "\t" ++ bound_cell area.end ++ codes "\t" ++ flags_cell (option_map low_word area.flags) ++ codes "\t" ++ optional_number_cell area.pgoff
+    bound_cell area.start ++ codes "\t" ++ bound_cell area.end ++ codes "\t" ++ flags_cell (option_map low_word area.flags) ++ codes "\t" ++ optional_number_cell area.pgoff ++ codes "\t"
 
--- the cells of an area and the path of its file, on a line
-abbrev pub area_line : AddressSpace → IsfTable → Kernel → Area → List ℕ
-area_line memory table kernel area = area_cells area ++ codes "\t" ++ path_cell memory table kernel area.file ++ codes "\n"
-
--- the row of the area at an address of a kernel's memory
-abbrev pub area_row : AddressSpace → IsfTable → Kernel → AreaMembers → ℕ → List ℕ
-area_row memory table kernel members at = area_line memory table kernel (area_at memory table members at)
+-- the cells of an area and the path of its file, on a line, over the memory of a kernel
+abbrev pub area_row : AddressSpace → IsfTable → Kernel → Area → List ℕ
+area_row memory table kernel area = area_cells area ++ path_cell memory table kernel area.file ++ codes "\n"

@@ -1,18 +1,13 @@
-//! The areas of a task.
-ghost use Rattle.std.specs.Prelude.{◌≡◌, ◌++◌, IfOk, IfSome, IsErr};
-ghost use Rattle.layer_base.specs.Counts.{HasCause};
-ghost use Rattle.layer_base.specs.View.{physical};
-ghost use Rattle.space_memory.specs.State.{IsSameMemory};
+//! The areas of a memory descriptor.
+ghost use Rattle.std.specs.Prelude.{◌≡◌, ◌++◌, IfOk};
 ghost use Rattle.space_memory.specs.Writer.{WritesOver};
-ghost use Rattle.typed_object.specs.Ground.{kernel_memory, kernel_space};
 ghost use Rattle.walk_text.specs.Added.{end_line};
-ghost use Rattle.map_plugins.specs.Maps.{head, descriptor, task_areas, areas_text, task_text};
+ghost use Rattle.map_plugins.specs.Maps.{head, areas_text, descriptor_text};
 
 use crate::row::AreaRow;
 use cell_text::append_stop_line;
 use kernel_records::{Need, PluginFault, Stop};
-use layer_base::{DeviceFailed, Layer, Sink, Steps, write_whole};
-use list_walk::Walk;
+use layer_base::{Layer, Sink, Steps, write_whole};
 use path_walk::Paths;
 use space_memory::Memory;
 use std::alloc::{AllocError, Global};
@@ -28,23 +23,6 @@ fn head() -> &'static [u8]
     b"START\tEND\tFLAGS\tPGOFF\tPATH\n"
 }
 
-// A walk along the areas of a task's memory descriptor, or why there are none.
-fn task_areas(
-    alloc: Global,
-    ground: Ground<'_, '_>,
-    task: u64,
-    descriptor: Option<u64>,
-) -> Result<Walk, Stop>
-    ensures walk { result ≡ task_areas ground.entry.table.now ground.entry.kernel task descriptor }
-    ensures space { IfOk result (λ walk. walk.space ≡ kernel_space ground.entry.kernel) }
-{
-    let mm = ground.needed_member(Need::TaskStructMm);
-    match descriptor {
-        Some(descriptor) => area_walk(alloc, ground, descriptor),
-        None => Err(absent_stop(mm, task)),
-    }
-}
-
 // The names of the columns, and why there are no areas.
 fn no_areas(alloc: Global, stop: Stop) -> Result<Vec<u8>, AllocError>
     ensures { IfOk result (λ text. text.items ≡ head ++ end_line stop) }
@@ -55,20 +33,19 @@ fn no_areas(alloc: Global, stop: Stop) -> Result<Vec<u8>, AllocError>
     Ok(text)
 }
 
-// Writes the areas that a walk gives.
+// Writes the areas of the memory descriptor at an address.
 fn write_areas<Y: Layer, O: Sink, L: Ledger>(
     alloc: Global,
     ground: Ground<'_, '_>,
-    walk: Result<Walk, Stop>,
+    mm: u64,
     memory: &mut Memory<Y>,
     out: &mut O,
     steps: &mut Steps<L>,
 ) -> Result<(), PluginFault>
-    requires { IfOk walk (λ walk. walk.space ≡ kernel_space ground.entry.kernel) }
     ensures writes { WritesOver O.written O.faults out.old out.new memory.old memory.new PluginFault.Device PluginFault.Out result
-        (λ memory. areas_text (kernel_memory memory ground.entry.kernel) ground.entry.table.now ground.entry.kernel walk) }
+        (λ memory. areas_text memory ground.entry.table.now ground.entry.kernel mm) }
 {
-    match walk {
+    match area_walk(alloc, ground, mm) {
         Ok(walk) => {
             let row = AreaRow {
                 reader: AreaReader::of(ground),
@@ -80,35 +57,25 @@ fn write_areas<Y: Layer, O: Sink, L: Ledger>(
     }
 }
 
-// The memory descriptor of a task.
-fn descriptor<Y: Layer, L: Ledger>(
-    ground: Ground<'_, '_>,
-    task: u64,
-    memory: &mut Memory<Y>,
-    steps: &mut Steps<L>,
-) -> Result<Option<u64>, DeviceFailed>
-    ensures word { IfSome memory.old.view (λ told. IfOk result (λ word.
-        word ≡ descriptor (kernel_memory (physical told) ground.entry.kernel) ground.entry.table.now task)) }
-    ensures memory { IsSameMemory memory.old memory.new }
-    ensures cause { HasCause memory.old.faults memory.new.faults (IsErr result) }
-{
-    let mm = ground.needed_member(Need::TaskStructMm);
-    ground.objects().word(mm, task, memory, steps)
-}
-
-/// Writes the areas of the task at an address.
-pub(crate) fn write_task<Y: Layer, O: Sink, L: Ledger>(
+/// Writes the areas of a task's memory descriptor. Where that is absent there are none.
+pub(crate) fn write_descriptor<Y: Layer, O: Sink, L: Ledger>(
     alloc: Global,
     ground: Ground<'_, '_>,
     task: u64,
+    descriptor: Option<u64>,
     memory: &mut Memory<Y>,
     out: &mut O,
     steps: &mut Steps<L>,
 ) -> Result<(), PluginFault>
     ensures writes { WritesOver O.written O.faults out.old out.new memory.old memory.new PluginFault.Device PluginFault.Out result
-        (λ memory. task_text (kernel_memory memory ground.entry.kernel) ground.entry.table.now ground.entry.kernel task) }
+        (λ memory. descriptor_text memory ground.entry.table.now ground.entry.kernel task descriptor) }
 {
-    let descriptor = descriptor(ground, task, memory, steps)?;
-    let walk = task_areas(alloc, ground, task, descriptor);
-    write_areas(alloc, ground, walk, memory, out, steps)
+    match descriptor {
+        Some(mm) => write_areas(alloc, ground, mm, memory, out, steps),
+        None => {
+            let mm = ground.needed_member(Need::TaskStructMm);
+            let stop = absent_stop(mm, task);
+            Ok(write_whole(out, &no_areas(alloc, stop)?)?)
+        }
+    }
 }

@@ -6,8 +6,11 @@ ghost use Rattle.map_plugins.specs.Flags.{is_set, letter, letters, flags_cell};
 use std::alloc::AllocError;
 
 const READ: u64 = 1;
+
 const WRITE: u64 = 2;
+
 const EXECUTE: u64 = 4;
+
 const SHARED: u64 = 8;
 
 fn is_set(flags: u64, flag: u64) -> bool

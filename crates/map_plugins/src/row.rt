@@ -6,7 +6,7 @@ ghost use Rattle.layer_base.specs.Number.{low_word};
 ghost use Rattle.layer_base.specs.View.{physical};
 ghost use Rattle.space_memory.specs.State.{IsSameMemory};
 ghost use Rattle.typed_object.specs.Ground.{kernel_memory};
-ghost use Rattle.map_plugins.specs.Row.{bound_cell, path_cell, area_cells, area_line};
+ghost use Rattle.map_plugins.specs.Row.{bound_cell, path_cell, area_cells, area_row};
 
 use crate::flags::append_flags;
 use cell_text::{append_optional_address, append_optional_number};
@@ -32,7 +32,8 @@ fn low_word(number: Option<Number>) -> Option<u64>
     Some(number?.low_word())
 }
 
-// Appends where an area begins and ends, what may be done with it, and how many pages into its file it begins.
+// Appends where an area begins and ends, what may be done with it, and how many pages into its file it begins, each with a tab
+// behind it.
 fn append_cells(text: &mut Vec<u8>, area: Area) -> Result<(), AllocError>
     ensures ok { OnOk result (text.new.items ≡ text.old.items ++ area_cells area) }
     ensures err { OnErr result (StartsWith text.new.items text.old.items) }
@@ -43,7 +44,9 @@ fn append_cells(text: &mut Vec<u8>, area: Area) -> Result<(), AllocError>
     text.push(b'\t')?;
     append_flags(text, low_word(area.flags))?;
     text.push(b'\t')?;
-    append_optional_number(text, area.pgoff)
+    append_optional_number(text, area.pgoff)?;
+    text.push(b'\t')?;
+    Ok(())
 }
 
 // Appends the path of an area's file.
@@ -61,7 +64,7 @@ fn append_path<Y: Layer, L: Ledger>(
     ensures cause { HasCause memory.old.faults memory.new.faults (IsErrOf result WalkFault.Device) }
 {
     match file {
-        None => Ok(text.push(b'-')?),
+        None => Ok(text.extend_from_slice(b"-")?),
         Some(0) => Ok(text.extend_from_slice(b"[anon]")?),
         Some(file) => append_file_path(paths, text, file, memory, steps),
     }
@@ -76,16 +79,14 @@ fn append_area<Y: Layer, L: Ledger>(
     steps: &mut Steps<L>,
 ) -> Result<(), WalkFault>
     ensures ok { IfSome memory.old.view (λ told. OnOk result (
-        text.new.items ≡ text.old.items ++ area_line (kernel_memory (physical told) paths.now.kernel) paths.now.table.now paths.now.kernel area)) }
+        text.new.items ≡ text.old.items ++ area_row (kernel_memory (physical told) paths.now.kernel) paths.now.table.now paths.now.kernel area)) }
     ensures err { OnErr result (StartsWith text.new.items text.old.items) }
     ensures memory { IsSameMemory memory.old memory.new }
     ensures cause { HasCause memory.old.faults memory.new.faults (IsErrOf result WalkFault.Device) }
 {
     append_cells(text, area)?;
-    text.push(b'\t')?;
     append_path(paths, text, area.file, memory, steps)?;
-    text.push(b'\n')?;
-    Ok(())
+    Ok(text.extend_from_slice(b"\n")?)
 }
 
 impl ObjectRow for AreaRow<'_> {
@@ -93,9 +94,9 @@ impl ObjectRow for AreaRow<'_> {
     ghost use Rattle.typed_object.specs.Ground.{kernel_memory};
     ghost use Rattle.vma_walk.specs.Area.{area_at};
     ghost use Rattle.vma_walk.specs.Members.{members_of};
-    ghost use Rattle.map_plugins.specs.Row.{area_line};
+    ghost use Rattle.map_plugins.specs.Row.{area_row};
 
-    ghost row_text = { λ r memory at. area_line (kernel_memory memory r.paths.kernel) r.paths.table.now r.paths.kernel
+    ghost row_text = { λ r memory at. area_row (kernel_memory memory r.paths.kernel) r.paths.table.now r.paths.kernel
         (area_at (in_space memory r.reader.objects.space) r.reader.objects.table.now (members_of r.reader) at) };
 
     fn append_row<Y: Layer, L: Ledger>(
