@@ -1,3 +1,3 @@
 pub mod First
-pub mod Listed
 pub mod Read
+pub mod RowTexts
