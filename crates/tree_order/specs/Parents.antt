@@ -1,5 +1,5 @@
 -- Which row is the parent of a row.
-use Rattle.std.specs.Prelude.{ℕ, ℤ, Bool, false, List, Option, Some, None, slice_get, position, option_and_then}
+use Rattle.std.specs.Prelude.{ℕ, ℤ, pos, negsuc, Bool, true, false, List, Option, Some, None, slice_get, position, option_and_then}
 use Rattle.std.specs.Ordering.{int_eq}
 use Rattle.kernel_records.specs.Whole.{whole}
 use Rattle.layer_base.specs.declared.number.Number.{Number}
@@ -14,6 +14,15 @@ is_whole whole_number (Some number) = int_eq (whole number) whole_number
 abbrev pub row_of : List Key → ℤ → Option ℕ
 row_of keys pid = position (λ key. is_whole pid key.pid) keys
 
+-- the row that a PPID names, if it is present
+abbrev pub parent_by : List Key → Option Number → Option ℕ
+parent_by keys ppid = option_and_then (λ number. row_of keys (whole number)) ppid
+
 -- the parent of a row: the first row whose PID is present and equals the row's PPID, which is present
 unfoldable pub parent : List Key → ℕ → Option ℕ
-parent keys row = option_and_then (λ ppid. row_of keys (whole ppid)) (option_and_then (λ key. key.ppid) (slice_get keys row))
+parent keys row = option_and_then (λ key. parent_by keys key.ppid) (slice_get keys row)
+
+-- a whole number as its sign and how far it is from 0, or from -1 where it is negative
+abbrev pub sign_and_size : ℤ → Bool × ℕ
+sign_and_size (pos n) = (false, n)
+sign_and_size (negsuc n) = (true, n)
