@@ -1,6 +1,10 @@
 mod Ancestors
+mod Climbing
 mod Ending
+mod Families
+mod Keys
 mod Lists
+mod Ordered
 mod Rings
 mod Sorting
 mod Walk

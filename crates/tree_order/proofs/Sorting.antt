@@ -1,13 +1,14 @@
 -- A list of rows in the order of their paths is what is in it.
-use Rattle.std.proofs.Common.{◌≡◌, ◌≢◌, ℕ, zero, suc, ◌+◌, ◌<◌, true, List, [], ◌∷◌, ◌++◌, refl, ap, sym, subst, ◌∙◌, ⊎_elim, inl, inr, Ordering, Less, Equal, Greater, is_lt, is_eq, is_gt, nat_cmp, arith}
+use Rattle.std.proofs.Common.{◌≡◌, ◌≢◌, ℕ, zero, suc, ◌+◌, ◌<◌, true, List, [], ◌∷◌, ◌++◌, refl, ap, sym, subst, ◌∙◌, ⊎_elim, inl, inr, Ordering, Less, Equal, Greater, is_lt, nat_cmp, arith, eqb, ne_eqb, false}
 use Rattle.std.specs.BTreeSet.{insert_key}
 use Rattle.std.specs.Cmp.{IsTotalOrder}
 use Rattle.std.specs.Cmp.Lexicographic.{slice_cmp}
-use Rattle.std.specs.List.{AllByRecursion}
+use Rattle.std.specs.List.{AllByRecursion, IsDistinct}
 use Rattle.std.specs.List.Sorted.{IsStrictlySortedBy}
 use Rattle.std.specs.Ordering.{match_ordering, ordering_reverse}
 use Rattle.std.proofs.lemmas.Bool.{cases_lt, false≢true}
 use Rattle.std.proofs.lemmas.Cmp.{tied_itself}
+use Rattle.std.proofs.lemmas.Map.Keys.{IsDistinct-cons}
 use Rattle.tree_order.specs.Tree.{sorted_rows}
 use Rattle.tree_order.proofs.Lists.{all_more, In, in_none, in_head, in_tail, in_cons, all_in}
 use Rattle.tree_order.proofs.Wide.{by_path}
@@ -55,6 +56,12 @@ module _ (cmp : ℕ → ℕ → Ordering) (total : IsTotalOrder cmp) (exact : (r
         | Equal ↦ λ is. sorted
         | Greater ↦ λ is. (all_inserted (λ y. cmp other y ≡ Less) rows row sorted.0 (total.antisymm other row ∙ ap ordering_reverse is), sorted_inserted rows row sorted.1)
       ]) refl
+
+  -- no two rows of a list in order are the same
+  pub distinct_sorted : (rows : List ℕ) → IsStrictlySortedBy cmp rows → IsDistinct eqb rows
+  unfolding IsStrictlySortedBy, IsDistinct
+  distinct_sorted [] sorted = tt
+  distinct_sorted (row ∷ rows) sorted = IsDistinct-cons eqb row rows (all_more (λ other. cmp row other ≡ Less) (λ other. eqb row other ≡ false) (λ other less. ne_eqb row other (not_itself row other less)) rows sorted.0) (distinct_sorted rows sorted.1)
 
   -- two lists in order that have the same rows are the same
   pub same_sorted : (xs ys : List ℕ) → IsStrictlySortedBy cmp xs → IsStrictlySortedBy cmp ys → ((row : ℕ) → In row xs → In row ys) → ((row : ℕ) → In row ys → In row xs) → xs ≡ ys

@@ -3,16 +3,17 @@ use Rattle.std.proofs.Common.{◌≡◌, ℕ, zero, suc, ◌+◌, ◌<◌, ◌�
 use Rattle.std.specs.Prelude.{option_map}
 use Rattle.std.specs.Cmp.{IsTotalOrder}
 use Rattle.std.specs.Cmp.Lexicographic.{slice_cmp}
-use Rattle.std.specs.List.{AllByRecursion, IsDistinct}
+use Rattle.std.specs.List.{AllByRecursion}
 use Rattle.std.specs.List.Sorted.{IsStrictlySortedBy}
 use Rattle.std.proofs.lemmas.Cmp.{on_total, nat_list_cmp_total}
 use Rattle.std.proofs.lemmas.List.{same_from_push}
 use Rattle.std.proofs.lemmas.Map.Lookups.{exact_bytes}
+use Rattle.std.proofs.lemmas.Map.Steps.{length-le_from_distinct_below}
 use Rattle.tree_order.specs.Forest.{Ends, IsForest}
 use Rattle.tree_order.specs.Tree.{path_under, sorted_rows}
 use Rattle.tree_order.proofs.Ending.{path-step}
 use Rattle.tree_order.proofs.Lists.{all_more, all_append, all_front, all_back, In, in_none, in_head, in_tail, in_cons, in_left, in_right, in_append, all_in}
-use Rattle.tree_order.proofs.Sorting.{is_sorted_rows}
+use Rattle.tree_order.proofs.Sorting.{distinct_sorted, is_sorted_rows}
 use Rattle.tree_order.proofs.Wide.{by_path, AllWide, Wide, wide_under, less_under, less_wide, wide_append, sorted_wide, in_order, all_in_order, is_in_order, wide_in_order}
 
 -- All rows so far are in the order of their paths, all rows under those that are done are found, and so are the tops.
@@ -32,7 +33,7 @@ paths_exact f n forest row other is =
     (same_from_push (unwrap_or (option_map (path_under f n) (f row)) []) (unwrap_or (option_map (path_under f n) (f other)) []) row other (sym (path-step f n forest row) ∙ same ∙ path-step f n forest other)).1
 
 -- the path of a row under a place
-path-at : (f : ℕ → Option ℕ) (n : ℕ) → IsForest f n → (place : Option ℕ) (row : ℕ) → f row ≡ place → path_under f n row ≡ unwrap_or (option_map (path_under f n) place) [] ++ row ∷ []
+pub path-at : (f : ℕ → Option ℕ) (n : ℕ) → IsForest f n → (place : Option ℕ) (row : ℕ) → f row ≡ place → path_under f n row ≡ unwrap_or (option_map (path_under f n) place) [] ++ row ∷ []
 path-at f n forest place row is = path-step f n forest row ∙ ap (λ o. unwrap_or (option_map (path_under f n) o) [] ++ row ∷ []) is
 
 -- the tops are pending
@@ -147,3 +148,8 @@ walk-end f n forest done walk =
       (subst (IsStrictlySortedBy (by_path (path_under f n))) whole walk.sorted)
       (subst (AllByRecursion (λ row. row < n)) whole walk.below)
       (λ row lt. all_done f n forest done (λ other within has. subst (In other) whole (walk.found other within has)) n row (forest.ends row) lt)
+
+-- no more rows are done or pending than there are
+pub walk-size : (f : ℕ → Option ℕ) (n : ℕ) → IsForest f n → (done pending : List ℕ) → IsWalk f n done pending → length (done ++ pending) ≤ n
+walk-size f n forest done pending walk =
+    length-le_from_distinct_below (done ++ pending) n (distinct_sorted (by_path (path_under f n)) (paths_total f n) (paths_exact f n forest) (done ++ pending) walk.sorted) (λ row is. all_in (λ r. r < n) row (done ++ pending) walk.below is)

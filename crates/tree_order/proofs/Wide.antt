@@ -78,13 +78,13 @@ reverse-rows_under f place (suc n) =
       | false ↦ reverse-rows_under f place n
     ]
 
-same_place : (o place : Option ℕ) → option_eq nat_eq o place ≡ true → o ≡ place
+pub same_place : (o place : Option ℕ) → option_eq nat_eq o place ≡ true → o ≡ place
 same_place None None is = refl
 same_place None (Some y) is = absurd (false≢true is)
 same_place (Some x) None is = absurd (false≢true is)
 same_place (Some x) (Some y) is = ap Some (eqb-true x y is)
 
-place_itself : (place : Option ℕ) → option_eq nat_eq place place ≡ true
+pub place_itself : (place : Option ℕ) → option_eq nat_eq place place ≡ true
 place_itself None = refl
 place_itself (Some x) = eq-eqb x x refl
 

@@ -1,6 +1,7 @@
 -- Which row is the parent of a row.
 use Rattle.std.specs.Prelude.{ℕ, ℤ, pos, negsuc, Bool, true, false, List, Option, Some, None, slice_get, position, option_and_then}
-use Rattle.std.specs.Ordering.{int_eq}
+use Rattle.std.specs.Ordering.{bool_cmp, int_eq, nat_cmp, ordering_then}
+use Rattle.std.specs.declared.cmp.Ordering.{Ordering}
 use Rattle.kernel_records.specs.Whole.{whole}
 use Rattle.layer_base.specs.declared.number.Number.{Number}
 use Rattle.tree_order.specs.declared.key.Key.{Key}
@@ -26,3 +27,7 @@ parent keys row = option_and_then (λ key. parent_by keys key.ppid) (slice_get k
 abbrev pub sign_and_size : ℤ → Bool × ℕ
 sign_and_size (pos n) = (false, n)
 sign_and_size (negsuc n) = (true, n)
+
+-- the order of such pairs
+abbrev pub key_cmp : Bool × ℕ → Bool × ℕ → Ordering
+key_cmp key other = ordering_then (bool_cmp key.0 other.0) (nat_cmp key.1 other.1)

@@ -12,7 +12,7 @@ pub(crate) struct Climb {
 }
 
 // The climb of a row in a list of climbs.
-fn climb_at(climbs: &[Climb], row: usize) -> Climb
+pub(crate) fn climb_at(climbs: &[Climb], row: usize) -> Climb
     ensures { result ≡ climb_at climbs.now row }
 {
     match climbs.get(row) {

@@ -1,5 +1,5 @@
 //! The rows under each row.
-ghost use Rattle.std.specs.Prelude.{◌≡◌, ◌<◌, ◌++◌, ℕ, List, length, map, IfOk, IfSome, OnOk};
+ghost use Rattle.std.specs.Prelude.{◌≡◌, ◌<◌, ◌+◌, ◌++◌, ℕ, List, length, map, Option, Some, IfOk, IfSome, OnOk};
 ghost use Rattle.tree_order.specs.Climbs.{entry};
 ghost use Rattle.tree_order.specs.Family.{Leads, IsFamily};
 
@@ -17,7 +17,7 @@ pub(crate) struct Family {
 
 // A family of no rows yet, with room for so many.
 fn no_rows(alloc: Global, rows: usize) -> Result<Family, AllocError>
-    ensures { IfOk result (λ family. (over : ℕ → Option ℕ) → IsFamily over 0 family) }
+    ensures family { IfOk result (λ family. (over : ℕ → Option ℕ) → IsFamily over 0 family) }
     ensures room { IfOk result (λ family. length family.last.items ≡ rows) }
 {
     Ok(Family {
@@ -30,7 +30,7 @@ fn no_rows(alloc: Global, rows: usize) -> Result<Family, AllocError>
 // One row more, which stands under a place.
 fn add_row(family: &mut Family, place: Option<usize>) -> Result<(), AllocError>
     requires { IfSome place (λ row. row < length family.old.last.items) }
-    ensures { OnOk result ((over : ℕ → Option ℕ) (rows : ℕ) → IsFamily over rows family.old → over rows ≡ place → IsFamily over (rows + 1) family.new) }
+    ensures family { OnOk result ((over : ℕ → Option ℕ) (rows : ℕ) → IsFamily over rows family.old → over rows ≡ place → IsFamily over (rows + 1) family.new) }
     ensures room { length family.new.last.items ≡ length family.old.last.items }
 {
     let row = family.before.len();
@@ -48,7 +48,7 @@ fn add_row(family: &mut Family, place: Option<usize>) -> Result<(), AllocError>
 }
 
 // The family of all rows.
-pub(crate) fn family(alloc: Global, over: &[Option<usize>]) -> Result<Family, AllocError>
+pub(crate) fn family_of(alloc: Global, over: &[Option<usize>]) -> Result<Family, AllocError>
     requires { (row above : ℕ) → entry over.now row ≡ Some above → above < length over.now }
     ensures { IfOk result (IsFamily (entry over.now) (length over.now)) }
 {

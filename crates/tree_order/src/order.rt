@@ -5,7 +5,7 @@ ghost use Rattle.tree_order.specs.Forest.{IsForest};
 ghost use Rattle.tree_order.specs.Tree.{branches, path_under, tree};
 
 use crate::entry::entry;
-use crate::family::{family, push_rows};
+use crate::family::{family_of, push_rows};
 use crate::parents::parents;
 use crate::tops::rows_over;
 use crate::{Branch, Key};
@@ -17,7 +17,7 @@ fn ordered(alloc: Global, over: &[Option<usize>]) -> Result<Rows<Branch>, AllocE
     requires { IsForest (entry over.now) (length over.now) }
     ensures { IfOk result (λ rows. rows ≡ branches (path_under (entry over.now) (length over.now)) (length over.now)) }
 {
-    let family = family(alloc, over)?;
+    let family = family_of(alloc, over)?;
     let mut order = Rows::new(alloc);
     let mut pending = Vec::new(alloc);
     push_rows(&mut pending, &family.before, family.last_top, 0)?;
