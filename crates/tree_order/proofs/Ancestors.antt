@@ -61,7 +61,7 @@ found-at f n above first on is (inl own) = (0, ap Some (sym own ∙ is))
 found-at f n above first on is (inr higher) = on (higher ∙ ap Some is)
 
 pub first_above-found : (f : ℕ → Option ℕ) (n row first : ℕ) → first_above f n row ≡ Some first → (t : ℕ) × (ancestor f t row ≡ Some first)
-unfolding first_above, ancestor
+unfolding first_above ancestor
 first_above-found f zero row first is = absurd (none-some first is)
 first_above-found f (suc n) row first is =
     option_and_then_some (λ above. Some (first_of above (first_above f n above))) (f row) first is (λ above up on.
@@ -81,7 +81,7 @@ le-at f n above (suc t) other on up within =
     omega (arith, first, higher.2)
 
 pub first_above-le : (f : ℕ → Option ℕ) (n t row other : ℕ) → ancestor f (suc t) row ≡ Some other → suc t ≤ n → (first : ℕ) × (first_above f n row ≡ Some first) × (first ≤ other)
-unfolding first_above, ancestor
+unfolding first_above ancestor
 first_above-le f zero t row other up within = absurd (omega arith)
 first_above-le f (suc n) t row other up within =
     option_and_then_some (ancestor f t) (f row) other up (λ above is on.

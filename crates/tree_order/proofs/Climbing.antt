@@ -18,7 +18,7 @@ both_none None = refl
 both_none (Some row) = refl
 
 first_above-add : (f : ℕ → Option ℕ) (a b row : ℕ) → first_above f (a + b) row ≡ first_of_both (first_above f a row) (option_and_then (first_above f b) (ancestor f a row))
-unfolding first_above, ancestor
+unfolding first_above ancestor
 first_above-add f zero b row =
     let none : zero + b ≡ b = omega arith in
     ap (λ n. first_above f n row) none
@@ -62,7 +62,7 @@ abbrev pub once_up : Option ℕ → Climb
 once_up parent = record { end = parent; first = parent }
 
 climb-one : (f : ℕ → Option ℕ) (row : ℕ) → once_up (f row) ≡ climb f 1 row
-unfolding first_above, ancestor
+unfolding first_above ancestor
 climb-one f row = elim (f row) as (λ o. once_up o ≡ record { end = option_and_then (ancestor f 0) o; first = option_and_then (λ above. Some (first_of above (first_above f 0 above))) o }) [ None ↦ refl | Some above ↦ refl ]
 
 pub climbs-once : (up : List (Option ℕ)) (row : ℕ) → climb_at (map once_up up) row ≡ climb (entry up) 1 row

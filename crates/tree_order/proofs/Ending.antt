@@ -18,7 +18,7 @@ rows_above f zero row = []
 rows_above f (suc n) row = unwrap_or (option_map (λ above. above ∷ rows_above f n above) (f row)) []
 
 all_above : (f : ℕ → Option ℕ) (n row : ℕ) (P : ℕ → Type 0) → ((t above : ℕ) → t < n → ancestor f (suc t) row ≡ Some above → P above) → AllByRecursion P (rows_above f n row)
-unfolding rows_above, ancestor
+unfolding rows_above ancestor
 all_above f zero row P each = tt
 all_above f (suc n) row P each =
     (elim (f row) as (λ o. f row ≡ o → AllByRecursion P (unwrap_or (option_map (λ above. above ∷ rows_above f n above) o) [])) [
@@ -28,7 +28,7 @@ all_above f (suc n) row P each =
 
 -- no two of them are the same where no row stands above itself
 distinct_above : (f : ℕ → Option ℕ) (most n row : ℕ) → ((d row : ℕ) → d < most → ancestor f (suc d) row ≡ Some row → ⊥) → n ≤ suc most → IsDistinct eqb (rows_above f n row)
-unfolding rows_above, IsDistinct
+unfolding rows_above IsDistinct
 distinct_above f most zero row none within = tt
 distinct_above f most (suc n) row none within =
     elim (f row) as (λ o. IsDistinct eqb (unwrap_or (option_map (λ above. above ∷ rows_above f n above) o) [])) [
@@ -44,7 +44,7 @@ ancestor-below f n within zero row above up = option_and_then_some (ancestor f 0
 ancestor-below f n within (suc t) row above up = option_and_then_some (ancestor f (suc t)) (f row) above up (λ next is on. ancestor-below f n within t next above on)
 
 ends_from_length : (f : ℕ → Option ℕ) (n row : ℕ) → length (rows_above f (suc n) row) ≤ n → Ends f n row
-unfolding rows_above, Ends
+unfolding rows_above Ends
 ends_from_length f zero row =
     elim (f row) as (λ o. length (unwrap_or (option_map (λ above. above ∷ rows_above f 0 above) o) []) ≤ 0 → o ≡ None) [
       | None ↦ λ short. refl
@@ -64,12 +64,12 @@ over-forest up n within =
       within = within_over;
       ends = λ row. ends_from_length (over up n) n row (length-le_from_distinct_below (rows_above (over up n) (suc n) row) n
         (distinct_above (over up n) n (suc n) row (λ d other lt ring. over-no_ring up n d other lt ring) (omega arith))
-        (λ other is. all_in (λ r. r < n) other (rows_above (over up n) (suc n) row) (all_above (over up n) (suc n) row (λ r. r < n) (λ t above lt up. ancestor-below (over up n) n within_over t row above up)) is));
+        (λ other is. all_in (λ r. r < n) other (rows_above (over up n) (suc n) row) (all_above (over up n) (suc n) row (λ r. r < n) (λ t above lt higher. ancestor-below (over up n) n within_over t row above higher)) is));
     }
 
 path_under-ends : (f : ℕ → Option ℕ) (n row : ℕ) → Ends f n row → path_under f (suc n) row ≡ path_under f n row
-unfolding path_under, Ends
-path_under-ends f zero row top = ap (λ o. unwrap_or (option_map (path_under f 0) o) [] ++ row ∷ []) top
+unfolding path_under Ends
+path_under-ends f zero row = λ top. ap (λ o. unwrap_or (option_map (path_under f 0) o) [] ++ row ∷ []) top
 path_under-ends f (suc n) row =
     elim (f row) as (λ o. IfSome o (Ends f n) → unwrap_or (option_map (path_under f (suc n)) o) [] ++ row ∷ [] ≡ unwrap_or (option_map (path_under f n) o) [] ++ row ∷ []) [
       | None ↦ λ ends. refl

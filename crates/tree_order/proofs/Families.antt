@@ -1,10 +1,10 @@
 -- The family of some rows, and of one row more.
-use Rattle.std.proofs.Common.{◌≡◌, ℕ, zero, suc, ◌+◌, ◌<◌, ◌≤◌, true, false, cond, List, [], ◌∷◌, ◌++◌, length, get_or, replicate, Option, Some, None, IfSome, refl, ap, sym, subst, ◌∙◌, ⊎_elim, inl, inr, arith, add-one, eq-eqb, ne_eqb, true≢false}
+use Rattle.std.proofs.Common.{◌≡◌, ◌≢◌, ℕ, zero, suc, ◌+◌, ◌<◌, ◌≤◌, true, false, cond, List, [], ◌∷◌, ◌++◌, length, get_or, set, replicate, Option, Some, None, IfSome, refl, ap, sym, subst, ◌∙◌, ⊎_elim, inl, inr, arith, add-one, eq-eqb, ne_eqb, true≢false}
 use Rattle.std.specs.Prelude.{nat_eq}
 use Rattle.std.specs.List.{AllByRecursion}
 use Rattle.std.specs.Option.{option_eq}
 use Rattle.std.proofs.lemmas.Bool.{cases_lt, cases_eq}
-use Rattle.std.proofs.lemmas.List.{get_or_append_left, get_or_push, get_or_past, get_or-replicate, length-replicate, length_push}
+use Rattle.std.proofs.lemmas.List.{get_or_append_left, get_or_push, get_or_past, get_or-replicate, get_or-set_same, get_or-set_other, length-replicate, length_push}
 use Rattle.tree_order.specs.Climbs.{entry}
 use Rattle.tree_order.specs.Family.{rows_under, Leads, last_under, IsFamily}
 use Rattle.tree_order.specs.declared.family.Family.{Family}
@@ -45,7 +45,7 @@ module _ (f : ℕ → Option ℕ) (n : ℕ) (place : Option ℕ) (old new : Fami
   last = ap (λ before. entry before n) pushed ∙ get_or_push old.before.items (last_under old place) None n family.count
 
   leads : (other : Option ℕ) → Leads new.before.items (last_under new other) (rows_under f other (suc n))
-  unfolding rows_under, Leads
+  unfolding rows_under Leads
   leads other =
       (elim (option_eq nat_eq (f n) other) as (λ b. option_eq nat_eq (f n) other ≡ b → Leads new.before.items (last_under new other) (cond b (n ∷ rows_under f other n) (rows_under f other n))) [
         | true ↦ λ same.
@@ -79,19 +79,44 @@ module _ (f : ℕ → Option ℕ) (n : ℕ) (place : Option ℕ) (old new : Fami
     falls = falls;
   }
 
+abbrev nothing : Option ℕ
+nothing = None
+
 -- no row yet
 pub family_none : (f : ℕ → Option ℕ) (rows : ℕ) (family : Family) → family.last_top ≡ None → family.last.items ≡ replicate rows None → family.before.items ≡ [] → IsFamily f 0 family
-unfolding rows_under, Leads
-family_none f rows family top last before =
-    let none = λ (row : ℕ). elim (cases_lt row rows) as (λ h. get_or (replicate rows (None {T = ℕ})) row None ≡ None) [
-      | inl lt ↦ get_or-replicate rows row None None lt
-      | inr ge ↦ get_or_past (replicate rows None) row None (omega (arith, length-replicate rows (None {T = ℕ})))
+unfolding rows_under Leads
+family_none f rows family no_top no_last no_before =
+    let none = λ (row : ℕ). elim (cases_lt row rows) as (λ h. get_or (replicate rows nothing) row nothing ≡ nothing) [
+      | inl lt ↦ get_or-replicate rows row nothing nothing lt
+      | inr ge ↦ get_or_past (replicate rows nothing) row nothing (omega (arith, ge, length-replicate rows nothing))
     ] in
     record {
-      count = ap length before;
+      count = ap length no_before;
       leads = elim [
-        | None ↦ top
-        | Some row ↦ ap (λ items. get_or items row None) last ∙ none row
+        | None ↦ no_top
+        | Some row ↦ ap (λ items. get_or items row None) no_last ∙ none row
       ];
-      falls = λ row. subst (λ items. IfSome (entry items row) (λ other. other < row)) (sym before) tt;
+      falls = λ row. subst (λ items. IfSome (entry items row) (λ other. other < row)) (sym no_before) tt;
     }
+
+apart : (row other : ℕ) → nat_eq row other ≡ false → other ≢ row
+apart row other differs same = true≢false (sym (eq-eqb row other (sym same)) ∙ differs)
+
+-- a row more under another one
+pub family_under : (f : ℕ → Option ℕ) (n parent : ℕ) (old new : Family) → IsFamily f n old → f n ≡ Some parent → parent < length old.last.items → new.before.items ≡ old.before.items ++ entry old.last.items parent ∷ []
+    → new.last_top ≡ old.last_top → new.last.items ≡ set old.last.items parent (Some n) → IsFamily f (n + 1) new
+family_under f n parent old new family is inside pushed top last =
+    family_more f n (Some parent) old new family is pushed (ap (λ items. get_or items parent None) last ∙ get_or-set_same old.last.items parent (Some n) None inside)
+      (elim [
+        | None ↦ λ differs. top
+        | Some other ↦ λ differs. ap (λ items. get_or items other None) last ∙ get_or-set_other old.last.items parent other (Some n) None (apart parent other differs)
+      ])
+
+-- a top more
+pub family_top : (f : ℕ → Option ℕ) (n : ℕ) (old new : Family) → IsFamily f n old → f n ≡ None → new.before.items ≡ old.before.items ++ old.last_top ∷ [] → new.last_top ≡ Some n → new.last.items ≡ old.last.items → IsFamily f (n + 1) new
+family_top f n old new family is pushed top last =
+    family_more f n None old new family is pushed top
+      (elim [
+        | None ↦ λ differs. absurd (true≢false differs)
+        | Some other ↦ λ differs. ap (λ items. get_or items other None) last
+      ])

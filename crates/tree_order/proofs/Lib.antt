@@ -7,5 +7,6 @@ mod Lists
 mod Ordered
 mod Rings
 mod Sorting
+mod Trees
 mod Walk
 mod Wide

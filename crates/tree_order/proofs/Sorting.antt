@@ -59,7 +59,7 @@ module _ (cmp : ℕ → ℕ → Ordering) (total : IsTotalOrder cmp) (exact : (r
 
   -- no two rows of a list in order are the same
   pub distinct_sorted : (rows : List ℕ) → IsStrictlySortedBy cmp rows → IsDistinct eqb rows
-  unfolding IsStrictlySortedBy, IsDistinct
+  unfolding IsStrictlySortedBy IsDistinct
   distinct_sorted [] sorted = tt
   distinct_sorted (row ∷ rows) sorted = IsDistinct-cons eqb row rows (all_more (λ other. cmp row other ≡ Less) (λ other. eqb row other ≡ false) (λ other less. ne_eqb row other (not_itself row other less)) rows sorted.0) (distinct_sorted rows sorted.1)
 
@@ -82,7 +82,7 @@ module _ (cmp : ℕ → ℕ → Ordering) (total : IsTotalOrder cmp) (exact : (r
 
 module _ (path : ℕ → List ℕ) (total : IsTotalOrder (by_path path)) (exact : (row other : ℕ) → by_path path row other ≡ Equal → row ≡ other) where
   sorted_rows-sorted : (n : ℕ) → IsStrictlySortedBy (by_path path) (sorted_rows path n)
-  unfolding sorted_rows, IsStrictlySortedBy
+  unfolding sorted_rows IsStrictlySortedBy
   sorted_rows-sorted zero = tt
   sorted_rows-sorted (suc n) = sorted_inserted (by_path path) total exact (sorted_rows path n) n (sorted_rows-sorted n)
 

@@ -70,7 +70,7 @@ in_order f place zero = []
 in_order f place (suc n) = cond (option_eq nat_eq (f n) place) (in_order f place n ++ n ∷ []) (in_order f place n)
 
 pub reverse-rows_under : (f : ℕ → Option ℕ) (place : Option ℕ) (n : ℕ) → reverse (rows_under f place n) ≡ in_order f place n
-unfolding rows_under, in_order
+unfolding rows_under in_order
 reverse-rows_under f place zero = refl
 reverse-rows_under f place (suc n) =
     elim (option_eq nat_eq (f n) place) as (λ b. reverse (cond b (n ∷ rows_under f place n) (rows_under f place n)) ≡ cond b (in_order f place n ++ n ∷ []) (in_order f place n)) [

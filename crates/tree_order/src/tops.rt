@@ -1,7 +1,6 @@
 //! The row over each row in the tree.
-ghost use Rattle.std.specs.Prelude.{◌≡◌, ◌<◌, ℕ, length, None, Some, IfOk, if◌then◌else◌};
+ghost use Rattle.std.specs.Prelude.{◌≡◌, ℕ, length, None, IfOk, if◌then◌else◌};
 ghost use Rattle.tree_order.specs.Climbs.{entry};
-ghost use Rattle.tree_order.specs.Forest.{IsForest};
 ghost use Rattle.tree_order.specs.Tops.{is_row, over};
 
 use crate::climb::{climb_at, climbs};
@@ -20,10 +19,8 @@ fn row_over(row: usize, parent: Option<usize>, first: Option<usize>) -> Option<u
 
 // The row over each row, none for a top.
 pub(crate) fn rows_over(alloc: Global, up: &[Option<usize>]) -> Result<Vec<Option<usize>>, AllocError>
-    requires { (row above : ℕ) → entry up.now row ≡ Some above → above < length up.now }
     ensures over { IfOk result (λ rows. (row : ℕ) → entry rows.items row ≡ over (entry up.now) (length up.now) row) }
     ensures len { IfOk result (λ rows. length rows.items ≡ length up.now) }
-    ensures forest { IfOk result (λ rows. IsForest (entry rows.items) (length up.now)) }
 {
     let mut rows = Vec::new(alloc);
     if up.is_empty() {

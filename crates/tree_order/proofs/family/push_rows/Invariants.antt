@@ -5,8 +5,8 @@ use Rattle.tree_order.specs.declared.branch.Branch.{Branch}
 use Rattle.tree_order.proofs.family.push_rows.Given as goal
 
 -- the rows that are left are led to, and with what is pending they are all rows
-abbrev pub invariant-loop-row : goal.invariant-loop-row
-invariant-loop-row l = (rows : List ℕ) → Leads l.before l.last rows → (left : List ℕ) × Leads l.before l.next left × (l.pending.items ++ map {B = Branch} (λ row. record { row = row; depth = l.depth }) left ≡ l.initial.pending.items ++ map {B = Branch} (λ row. record { row = row; depth = l.depth }) rows)
+abbrev pub invariant-loop-next : goal.invariant-loop-next
+invariant-loop-next l = (rows : List ℕ) → Leads l.before l.fn.last rows → (left : List ℕ) × Leads l.before l.next left × (l.pending.items ++ map {B = Branch} (λ row. record { row = row; depth = l.depth }) left ≡ l.initial.pending.items ++ map {B = Branch} (λ row. record { row = row; depth = l.depth }) rows)
 
-abbrev pub decreases-loop-row : goal.decreases-loop-row
-decreases-loop-row l = unwrap_or (option_map suc l.next) 0
+abbrev pub decreases-loop-next : goal.decreases-loop-next
+decreases-loop-next l = unwrap_or (option_map suc l.next) 0
