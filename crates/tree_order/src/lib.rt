@@ -2,8 +2,13 @@
 #![tactic(auto)]
 
 mod branch;
+mod climb;
+mod entry;
+mod family;
 mod key;
 mod order;
+mod parents;
+mod tops;
 
 pub use branch::Branch;
 pub use key::Key;
