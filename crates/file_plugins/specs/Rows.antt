@@ -17,7 +17,7 @@ file_cells memory table kernel file = codes "\t" ++ address_cell file ++ codes "
 
 -- a descriptor and the cells of its file, on a line
 abbrev pub file_row : (ℕ → List ℕ) → OpenFile → List ℕ
-file_row cells open = decimal open.descriptor ++ cells open.file
+file_row cells open_file = decimal open_file.descriptor ++ cells open_file.file
 
 -- the rows of the files of words, the first of which has this index, and why the list ends
 unfoldable pub lines_from : (ℕ → List ℕ) → WordTable → ℕ → List (Option ℕ) → List ℕ
