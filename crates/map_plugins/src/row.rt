@@ -1,15 +1,15 @@
 //! The row of an area.
-ghost use Rattle.std.specs.Prelude.{◌≡◌, ◌++◌, option_map, IfSome, IsErrOf, OnOk, OnErr};
+ghost use Rattle.std.specs.Prelude.{◌≡◌, ◌++◌, IfSome, IsErrOf, OnOk, OnErr};
 ghost use Rattle.std.specs.Io.{StartsWith};
 ghost use Rattle.layer_base.specs.Counts.{HasCause};
-ghost use Rattle.layer_base.specs.Number.{low_word};
 ghost use Rattle.layer_base.specs.View.{physical};
 ghost use Rattle.space_memory.specs.State.{IsSameMemory};
 ghost use Rattle.typed_object.specs.Ground.{kernel_memory};
-ghost use Rattle.map_plugins.specs.Row.{bound_cell, path_cell, area_cells, area_row};
+ghost use Rattle.map_plugins.specs.Row.{bound_cell, bound_cells, path_cell, area_cells, area_row};
 
 use crate::flags::append_flags;
-use cell_text::{append_optional_address, append_optional_number};
+use cell_text::append_optional_number;
+use hex_text::append_address;
 use kernel_records::{Area, WalkFault};
 use layer_base::{Layer, Number, Steps};
 use path_walk::{Paths, append_file_path};
@@ -26,27 +26,37 @@ pub(crate) struct AreaRow<'t> {
     pub(crate) paths: Paths<'t>,
 }
 
-fn low_word(number: Option<Number>) -> Option<u64>
-    ensures { result ≡ option_map low_word number }
+// Appends the low 64 bits of a number as an address.
+fn append_bound(text: &mut Vec<u8>, bound: Option<Number>) -> Result<(), AllocError>
+    ensures ok { OnOk result (text.new.items ≡ text.old.items ++ bound_cell bound) }
+    ensures err { OnErr result (StartsWith text.new.items text.old.items) }
 {
-    Some(number?.low_word())
+    match bound {
+        Some(bound) => append_address(text, bound.low_word()),
+        None => Ok(text.push(b'-')?),
+    }
 }
 
-// Appends where an area begins and ends, what may be done with it, and how many pages into its file it begins, each with a tab
-// behind it.
+// Appends where an area begins and ends.
+fn append_bounds(text: &mut Vec<u8>, area: Area) -> Result<(), AllocError>
+    ensures ok { OnOk result (text.new.items ≡ text.old.items ++ bound_cells area) }
+    ensures err { OnErr result (StartsWith text.new.items text.old.items) }
+{
+    append_bound(text, area.start)?;
+    text.push(b'\t')?;
+    append_bound(text, area.end)
+}
+
+// Appends the same, what may be done with the area, and how many pages into its file it begins.
 fn append_cells(text: &mut Vec<u8>, area: Area) -> Result<(), AllocError>
     ensures ok { OnOk result (text.new.items ≡ text.old.items ++ area_cells area) }
     ensures err { OnErr result (StartsWith text.new.items text.old.items) }
 {
-    append_optional_address(text, low_word(area.start))?;
+    append_bounds(text, area)?;
     text.push(b'\t')?;
-    append_optional_address(text, low_word(area.end))?;
+    append_flags(text, area.flags)?;
     text.push(b'\t')?;
-    append_flags(text, low_word(area.flags))?;
-    text.push(b'\t')?;
-    append_optional_number(text, area.pgoff)?;
-    text.push(b'\t')?;
-    Ok(())
+    append_optional_number(text, area.pgoff)
 }
 
 // Appends the path of an area's file.
@@ -85,6 +95,7 @@ fn append_area<Y: Layer, L: Ledger>(
     ensures cause { HasCause memory.old.faults memory.new.faults (IsErrOf result WalkFault.Device) }
 {
     append_cells(text, area)?;
+    text.extend_from_slice(b"\t")?;
     append_path(paths, text, area.file, memory, steps)?;
     Ok(text.extend_from_slice(b"\n")?)
 }
