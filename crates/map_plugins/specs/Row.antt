@@ -29,6 +29,10 @@ bound_cells area = bound_cell area.start ++ codes "\t" ++ bound_cell area.end
 abbrev pub area_cells : Area → List ℕ
 area_cells area = bound_cells area ++ codes "\t" ++ flags_cell area.flags ++ codes "\t" ++ optional_number_cell area.pgoff
 
--- the cells of an area and the path of its file, on a line, over the memory of a kernel
+-- the cells of an area and a path, on a line
+abbrev pub area_line : Area → List ℕ → List ℕ
+area_line area path = area_cells area ++ codes "\t" ++ path ++ codes "\n"
+
+-- the row of an area, over the memory of a kernel
 abbrev pub area_row : AddressSpace → IsfTable → Kernel → Area → List ℕ
-area_row memory table kernel area = area_cells area ++ codes "\t" ++ path_cell memory table kernel area.file ++ codes "\n"
+area_row memory table kernel area = area_line area (path_cell memory table kernel area.file)

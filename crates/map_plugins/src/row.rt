@@ -1,11 +1,11 @@
 //! The row of an area.
-ghost use Rattle.std.specs.Prelude.{◌≡◌, ◌++◌, IfSome, IsErrOf, OnOk, OnErr};
+ghost use Rattle.std.specs.Prelude.{◌≡◌, ◌++◌, IfOk, IfSome, IsErrOf, OnOk, OnErr};
 ghost use Rattle.std.specs.Io.{StartsWith};
 ghost use Rattle.layer_base.specs.Counts.{HasCause};
 ghost use Rattle.layer_base.specs.View.{physical};
 ghost use Rattle.space_memory.specs.State.{IsSameMemory};
 ghost use Rattle.typed_object.specs.Ground.{kernel_memory};
-ghost use Rattle.map_plugins.specs.Row.{bound_cell, bound_cells, path_cell, area_cells, area_row};
+ghost use Rattle.map_plugins.specs.Row.{bound_cell, bound_cells, path_cell, area_cells, area_line};
 
 use crate::flags::append_flags;
 use cell_text::append_optional_number;
@@ -14,7 +14,7 @@ use kernel_records::{Area, WalkFault};
 use layer_base::{Layer, Number, Steps};
 use path_walk::{Paths, append_file_path};
 use space_memory::Memory;
-use std::alloc::AllocError;
+use std::alloc::{AllocError, Global};
 use std::sync::ledger::Ledger;
 use vma_walk::AreaReader;
 use walk_text::ObjectRow;
@@ -22,6 +22,7 @@ use walk_text::ObjectRow;
 /// What reads the areas and the paths of their files.
 #[derive(Clone, Copy)]
 pub(crate) struct AreaRow<'t> {
+    pub(crate) alloc: Global,
     pub(crate) reader: AreaReader<'t>,
     pub(crate) paths: Paths<'t>,
 }
@@ -80,24 +81,34 @@ fn append_path<Y: Layer, L: Ledger>(
     }
 }
 
-// Appends the row of an area.
-fn append_area<Y: Layer, L: Ledger>(
+// The cell of the path of an area's file.
+fn path_cell<Y: Layer, L: Ledger>(
+    alloc: Global,
     paths: &Paths<'_>,
-    text: &mut Vec<u8>,
-    area: Area,
+    file: Option<u64>,
     memory: &mut Memory<Y>,
     steps: &mut Steps<L>,
-) -> Result<(), WalkFault>
-    ensures ok { IfSome memory.old.view (λ told. OnOk result (
-        text.new.items ≡ text.old.items ++ area_row (kernel_memory (physical told) paths.now.kernel) paths.now.table.now paths.now.kernel area)) }
-    ensures err { OnErr result (StartsWith text.new.items text.old.items) }
+) -> Result<Vec<u8>, WalkFault>
+    ensures cell { IfSome memory.old.view (λ told. IfOk result (λ cell.
+        cell.items ≡ path_cell (kernel_memory (physical told) paths.now.kernel) paths.now.table.now paths.now.kernel file)) }
     ensures memory { IsSameMemory memory.old memory.new }
     ensures cause { HasCause memory.old.faults memory.new.faults (IsErrOf result WalkFault.Device) }
 {
+    let mut cell = Vec::new(alloc);
+    append_path(paths, &mut cell, file, memory, steps)?;
+    Ok(cell)
+}
+
+// Appends the row of an area with a path.
+fn append_area(text: &mut Vec<u8>, area: Area, path: &[u8]) -> Result<(), AllocError>
+    ensures ok { OnOk result (text.new.items ≡ text.old.items ++ area_line area path.now) }
+    ensures err { OnErr result (StartsWith text.new.items text.old.items) }
+{
     append_cells(text, area)?;
-    text.extend_from_slice(b"\t")?;
-    append_path(paths, text, area.file, memory, steps)?;
-    Ok(text.extend_from_slice(b"\n")?)
+    text.push(b'\t')?;
+    text.extend_from_slice(path)?;
+    text.push(b'\n')?;
+    Ok(())
 }
 
 impl ObjectRow for AreaRow<'_> {
@@ -118,6 +129,7 @@ impl ObjectRow for AreaRow<'_> {
         steps: &mut Steps<L>,
     ) -> Result<(), WalkFault> {
         let area = self.reader.area_at(at, memory, steps)?;
-        append_area(&self.paths, text, area, memory, steps)
+        let path = path_cell(self.alloc, &self.paths, area.file, memory, steps)?;
+        Ok(append_area(text, area, &path)?)
     }
 }
