@@ -1,5 +1,7 @@
 -- What may be done with an area, a letter for each flag.
 use Rattle.std.specs.Prelude.{ℕ, ◌/◌, ◌%◌, Bool, ◌==◌, if◌then◌else◌, List, ◌++◌, codes, Option, None, Some}
+use Rattle.layer_base.specs.Number.{low_word}
+use Rattle.layer_base.specs.declared.number.Number.{Number}
 
 -- whether a flag is set, which is a power of two
 abbrev pub is_set : ℕ → ℕ → Bool
@@ -14,7 +16,7 @@ abbrev pub letters : ℕ → List ℕ
 letters flags =
     letter flags 1 (codes "r") (codes "-") ++ letter flags 2 (codes "w") (codes "-") ++ letter flags 4 (codes "x") (codes "-") ++ letter flags 8 (codes "s") (codes "p")
 
--- the cell of flags, which may be absent
-abbrev pub flags_cell : Option ℕ → List ℕ
+-- the cell of flags by the low 64 bits of their number, which may be absent
+abbrev pub flags_cell : Option Number → List ℕ
 flags_cell None = codes "-"
-flags_cell (Some flags) = letters flags
+flags_cell (Some flags) = letters (low_word flags)

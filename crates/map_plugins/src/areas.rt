@@ -48,6 +48,7 @@ fn write_areas<Y: Layer, O: Sink, L: Ledger>(
     match area_walk(alloc, ground, mm) {
         Ok(walk) => {
             let row = AreaRow {
+                alloc,
                 reader: AreaReader::of(ground),
                 paths: Paths::of(&ground),
             };

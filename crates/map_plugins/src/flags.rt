@@ -3,6 +3,7 @@ ghost use Rattle.std.specs.Prelude.{◌≡◌, ◌≤◌, ◌++◌, OnOk, OnErr}
 ghost use Rattle.std.specs.Io.{StartsWith};
 ghost use Rattle.map_plugins.specs.Flags.{is_set, letter, letters, flags_cell};
 
+use layer_base::Number;
 use std::alloc::AllocError;
 
 const READ: u64 = 1;
@@ -49,15 +50,15 @@ fn append_letters(text: &mut Vec<u8>, flags: u64) -> Result<(), AllocError>
     append_letter(text, flags, SHARED, b"s", b"p")
 }
 
-/// Appends the cell of an area's flags: `r`, `w` and `x` where it may be read, written and executed, each else `-`, then
+/// Appends the cell of an area's flags, of which the low 64 bits count: `r`, `w` and `x` where it may be read, written and executed, each else `-`, then
 /// `s` where it is shared, else `p`; or `-` where the flags are absent. When out of memory, what stood in the text still
 /// stands at its front.
-pub(crate) fn append_flags(text: &mut Vec<u8>, flags: Option<u64>) -> Result<(), AllocError>
+pub(crate) fn append_flags(text: &mut Vec<u8>, flags: Option<Number>) -> Result<(), AllocError>
     ensures ok { OnOk result (text.new.items ≡ text.old.items ++ flags_cell flags) }
     ensures err { OnErr result (StartsWith text.new.items text.old.items) }
 {
     match flags {
-        Some(flags) => append_letters(text, flags),
+        Some(flags) => append_letters(text, flags.low_word()),
         None => Ok(text.push(b'-')?),
     }
 }

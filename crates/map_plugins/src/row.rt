@@ -1,20 +1,20 @@
 //! The row of an area.
-ghost use Rattle.std.specs.Prelude.{◌≡◌, ◌++◌, option_map, IfSome, IsErrOf, OnOk, OnErr};
+ghost use Rattle.std.specs.Prelude.{◌≡◌, ◌++◌, IfOk, IfSome, IsErrOf, OnOk, OnErr};
 ghost use Rattle.std.specs.Io.{StartsWith};
 ghost use Rattle.layer_base.specs.Counts.{HasCause};
-ghost use Rattle.layer_base.specs.Number.{low_word};
 ghost use Rattle.layer_base.specs.View.{physical};
 ghost use Rattle.space_memory.specs.State.{IsSameMemory};
 ghost use Rattle.typed_object.specs.Ground.{kernel_memory};
-ghost use Rattle.map_plugins.specs.Row.{bound_cell, path_cell, area_cells, area_row};
+ghost use Rattle.map_plugins.specs.Row.{bound_cell, bound_cells, path_cell, area_cells, area_line};
 
 use crate::flags::append_flags;
-use cell_text::{append_optional_address, append_optional_number};
+use cell_text::append_optional_number;
+use hex_text::append_address;
 use kernel_records::{Area, WalkFault};
 use layer_base::{Layer, Number, Steps};
 use path_walk::{Paths, append_file_path};
 use space_memory::Memory;
-use std::alloc::AllocError;
+use std::alloc::{AllocError, Global};
 use std::sync::ledger::Ledger;
 use vma_walk::AreaReader;
 use walk_text::ObjectRow;
@@ -22,31 +22,42 @@ use walk_text::ObjectRow;
 /// What reads the areas and the paths of their files.
 #[derive(Clone, Copy)]
 pub(crate) struct AreaRow<'t> {
+    pub(crate) alloc: Global,
     pub(crate) reader: AreaReader<'t>,
     pub(crate) paths: Paths<'t>,
 }
 
-fn low_word(number: Option<Number>) -> Option<u64>
-    ensures { result ≡ option_map low_word number }
+// Appends the low 64 bits of a number as an address.
+fn append_bound(text: &mut Vec<u8>, bound: Option<Number>) -> Result<(), AllocError>
+    ensures ok { OnOk result (text.new.items ≡ text.old.items ++ bound_cell bound) }
+    ensures err { OnErr result (StartsWith text.new.items text.old.items) }
 {
-    Some(number?.low_word())
+    match bound {
+        Some(bound) => append_address(text, bound.low_word()),
+        None => Ok(text.push(b'-')?),
+    }
 }
 
-// Appends where an area begins and ends, what may be done with it, and how many pages into its file it begins, each with a tab
-// behind it.
+// Appends where an area begins and ends.
+fn append_bounds(text: &mut Vec<u8>, area: Area) -> Result<(), AllocError>
+    ensures ok { OnOk result (text.new.items ≡ text.old.items ++ bound_cells area) }
+    ensures err { OnErr result (StartsWith text.new.items text.old.items) }
+{
+    append_bound(text, area.start)?;
+    text.push(b'\t')?;
+    append_bound(text, area.end)
+}
+
+// Appends the same, what may be done with the area, and how many pages into its file it begins.
 fn append_cells(text: &mut Vec<u8>, area: Area) -> Result<(), AllocError>
     ensures ok { OnOk result (text.new.items ≡ text.old.items ++ area_cells area) }
     ensures err { OnErr result (StartsWith text.new.items text.old.items) }
 {
-    append_optional_address(text, low_word(area.start))?;
+    append_bounds(text, area)?;
     text.push(b'\t')?;
-    append_optional_address(text, low_word(area.end))?;
+    append_flags(text, area.flags)?;
     text.push(b'\t')?;
-    append_flags(text, low_word(area.flags))?;
-    text.push(b'\t')?;
-    append_optional_number(text, area.pgoff)?;
-    text.push(b'\t')?;
-    Ok(())
+    append_optional_number(text, area.pgoff)
 }
 
 // Appends the path of an area's file.
@@ -70,23 +81,34 @@ fn append_path<Y: Layer, L: Ledger>(
     }
 }
 
-// Appends the row of an area.
-fn append_area<Y: Layer, L: Ledger>(
+// The cell of the path of an area's file.
+fn path_cell<Y: Layer, L: Ledger>(
+    alloc: Global,
     paths: &Paths<'_>,
-    text: &mut Vec<u8>,
-    area: Area,
+    file: Option<u64>,
     memory: &mut Memory<Y>,
     steps: &mut Steps<L>,
-) -> Result<(), WalkFault>
-    ensures ok { IfSome memory.old.view (λ told. OnOk result (
-        text.new.items ≡ text.old.items ++ area_row (kernel_memory (physical told) paths.now.kernel) paths.now.table.now paths.now.kernel area)) }
-    ensures err { OnErr result (StartsWith text.new.items text.old.items) }
+) -> Result<Vec<u8>, WalkFault>
+    ensures cell { IfSome memory.old.view (λ told. IfOk result (λ cell.
+        cell.items ≡ path_cell (kernel_memory (physical told) paths.now.kernel) paths.now.table.now paths.now.kernel file)) }
     ensures memory { IsSameMemory memory.old memory.new }
     ensures cause { HasCause memory.old.faults memory.new.faults (IsErrOf result WalkFault.Device) }
 {
+    let mut cell = Vec::new(alloc);
+    append_path(paths, &mut cell, file, memory, steps)?;
+    Ok(cell)
+}
+
+// Appends the row of an area with a path.
+fn append_area(text: &mut Vec<u8>, area: Area, path: &[u8]) -> Result<(), AllocError>
+    ensures ok { OnOk result (text.new.items ≡ text.old.items ++ area_line area path.now) }
+    ensures err { OnErr result (StartsWith text.new.items text.old.items) }
+{
     append_cells(text, area)?;
-    append_path(paths, text, area.file, memory, steps)?;
-    Ok(text.extend_from_slice(b"\n")?)
+    text.push(b'\t')?;
+    text.extend_from_slice(path)?;
+    text.push(b'\n')?;
+    Ok(())
 }
 
 impl ObjectRow for AreaRow<'_> {
@@ -107,6 +129,7 @@ impl ObjectRow for AreaRow<'_> {
         steps: &mut Steps<L>,
     ) -> Result<(), WalkFault> {
         let area = self.reader.area_at(at, memory, steps)?;
-        append_area(&self.paths, text, area, memory, steps)
+        let path = path_cell(self.alloc, &self.paths, area.file, memory, steps)?;
+        Ok(append_area(text, area, &path)?)
     }
 }
