@@ -17,8 +17,10 @@ use Rattle.symbol_texts.specs.Symbols.{symbol_text, near_text}
 use Rattle.session.specs.Evidence.{Evidence}
 use Rattle.session.specs.Fault.{unknown_text}
 use Rattle.session.specs.Kernel.{found_in}
+use Rattle.session.specs.KernelCommand.{text_at_kernel}
 use Rattle.session.specs.Place.{text_at}
 use Rattle.session.specs.Said.{Said, prints}
+use Rattle.session.specs.declared.kernel_command.KernelCommand.TheVariants as kernels
 use Rattle.session.specs.declared.place.Place.{Place}
 
 -- the rows of so many bytes from a place on
@@ -61,11 +63,11 @@ command_said evidence (commands.Symbol name) = prints (symbol_text evidence.tabl
 command_said evidence (commands.Near number) = prints (near_text evidence.table number)
 command_said evidence commands.Banners = prints (banners_text (in_space evidence.memory Phys))
 command_said evidence commands.Kernel = prints (found_text (found_in evidence))
-command_said evidence commands.Pslist = not_yet
-command_said evidence commands.Pstree = not_yet
-command_said evidence commands.Lsmod = not_yet
-command_said evidence commands.CheckSyscall = not_yet
-command_said evidence (commands.Maps pid) = not_yet
-command_said evidence (commands.Lsof pid) = not_yet
+command_said evidence commands.Pslist = prints (text_at_kernel evidence kernels.Pslist)
+command_said evidence commands.Pstree = prints (text_at_kernel evidence kernels.Pstree)
+command_said evidence commands.Lsmod = prints (text_at_kernel evidence kernels.Lsmod)
+command_said evidence commands.CheckSyscall = prints (text_at_kernel evidence kernels.CheckSyscall)
+command_said evidence (commands.Maps pid) = prints (text_at_kernel evidence (kernels.Maps pid))
+command_said evidence (commands.Lsof pid) = prints (text_at_kernel evidence (kernels.Lsof pid))
 command_said evidence (commands.Dump space at len) = not_yet
 command_said evidence (commands.Scan space at len needle) = prints (text_at evidence space at len (hits_text evidence.memory len needle))

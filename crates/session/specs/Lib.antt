@@ -4,6 +4,7 @@ pub mod Evidence
 pub mod Fault
 pub mod Headline
 pub mod Kernel
+pub mod KernelCommand
 pub mod Limits
 pub mod Line
 pub mod Lines

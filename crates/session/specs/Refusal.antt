@@ -1,19 +1,21 @@
 -- Why a command prints one line in place of its text.
 use Rattle.std.specs.Prelude.{◌≡◌, ℕ, List, Result, Ok, Err}
-use Rattle.cell_text.specs.ErrorLine.{no_symbol_text}
+use Rattle.cell_text.specs.ErrorLine.{missing_text, no_symbol_text, no_task_text, no_space_text}
 use Rattle.kernel_find.specs.FoundText.{found_text}
-use Rattle.session.specs.Fault.{unknown_text, out_of_range_text}
+use Rattle.session.specs.Fault.{out_of_range_text}
 use Rattle.session.specs.declared.refusal.CommandRefusal.{CommandRefusal}
-use Rattle.session.specs.declared.refusal.CommandRefusal.TheVariants.{NoKernel, NoSymbol, OutOfRange, NotYet}
+use Rattle.session.specs.declared.refusal.CommandRefusal.TheVariants.{NoKernel, Missing, NoTask, NoSpace, NoSymbol, OutOfRange}
 use Rattle.session.specs.declared.refusal.NotRun.{NotRun}
 use Rattle.session.specs.declared.refusal.NotRun.TheVariants.{Refused, Fault}
 
 -- the line that says it
 unfoldable pub refusal_text : CommandRefusal → List ℕ
 refusal_text (NoKernel found) = found_text found
+refusal_text (Missing need) = missing_text need
+refusal_text (NoTask pid) = no_task_text pid
+refusal_text (NoSpace pid) = no_space_text pid
 refusal_text (NoSymbol name) = no_symbol_text name
 refusal_text OutOfRange = out_of_range_text
-refusal_text NotYet = unknown_text
 
 -- what comes of an answer; a refusal is the answer
 abbrev pub and_then : {A B : Type 0} → Result A CommandRefusal → (A → Result B CommandRefusal) → Result B CommandRefusal

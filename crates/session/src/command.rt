@@ -15,6 +15,7 @@ use crate::at_place::{object_at, read_at, scan_at, translate_at};
 use crate::desk::Desk;
 use crate::error_line::{write_fault, write_unknown};
 use crate::kernel::write_kernel;
+use crate::kernel_command::{KernelCommand, list_at_kernel};
 use crate::status::CommandFault;
 use command_words::{Command, LineFault, parse_line};
 use kernel_records::PluginFault;
@@ -142,12 +143,16 @@ fn write_command<Y: Layer, O: Sink, L: Ledger>(
         }
         Command::Banners => write_banners(desk.alloc, &mut desk.memory, out, steps),
         Command::Kernel => write_kernel(desk, out, steps),
-        Command::Pslist
-        | Command::Pstree
-        | Command::Lsmod
-        | Command::CheckSyscall
-        | Command::Maps { .. }
-        | Command::Lsof { .. }
-        | Command::Dump { .. } => Ok(write_unknown(out)?),
+        Command::Pslist => list_at_kernel(desk, KernelCommand::Pslist, out, steps),
+        Command::Pstree => list_at_kernel(desk, KernelCommand::Pstree, out, steps),
+        Command::Lsmod => list_at_kernel(desk, KernelCommand::Lsmod, out, steps),
+        Command::CheckSyscall => list_at_kernel(desk, KernelCommand::CheckSyscall, out, steps),
+        Command::Maps { pid } => {
+            list_at_kernel(desk, KernelCommand::Maps { pid: *pid }, out, steps)
+        }
+        Command::Lsof { pid } => {
+            list_at_kernel(desk, KernelCommand::Lsof { pid: *pid }, out, steps)
+        }
+        Command::Dump { .. } => Ok(write_unknown(out)?),
     }
 }

@@ -7,6 +7,7 @@ mod desk;
 mod ended;
 mod error_line;
 mod kernel;
+mod kernel_command;
 mod line_buffer;
 mod place;
 mod read;

@@ -3,18 +3,19 @@ ghost use Rattle.std.specs.Prelude.{◌≡◌, ◌+◌, ◌^◌, ◌≤◌, IfOk
 ghost use Rattle.layer_base.specs.Counts.{HasCause};
 ghost use Rattle.space_memory.specs.State.{IsSameMemory};
 ghost use Rattle.session.specs.Evidence.{evidence_in};
-ghost use Rattle.session.specs.Kernel.{KeepsKernel};
-ghost use Rattle.session.specs.Place.{space_of, address_of, in_range, place_of};
-ghost use Rattle.session.specs.Refusal.{AnswersAs};
+ghost use Rattle.session.specs.Kernel.{KeepsKernel, kernel_of};
+ghost use Rattle.session.specs.Place.{task_space_or_refusal, space_of_pid, space_of, address_of, in_range, place_of};
+ghost use Rattle.session.specs.Refusal.{and_then, AnswersAs};
 
 use crate::desk::Desk;
 use crate::kernel::kernel_of;
 use crate::refusal::{CommandRefusal, NotRun};
 use command_words::{AddrWord, SpaceWord};
-use kernel_records::WalkFault;
+use kernel_records::{TaskFault, WalkFault};
 use layer_base::{Layer, Name, Space, Steps};
 use std::alloc::{AllocError, Global};
 use std::sync::ledger::Ledger;
+use task_plugins::{TaskSpace, space_of_task};
 
 /// An address in a space.
 #[derive(Clone, Copy, Debug)]
@@ -24,6 +25,40 @@ pub(crate) struct Place {
 }
 
 const END: u128 = 1 << 64;
+
+fn task_space_or_refusal(pid: u64, space: TaskSpace) -> Result<Space, CommandRefusal>
+    ensures { result ≡ task_space_or_refusal pid space }
+{
+    match space {
+        TaskSpace::Found(space) => Ok(space),
+        TaskSpace::NoTask => Err(CommandRefusal::NoTask(pid)),
+        TaskSpace::NoSpace => Err(CommandRefusal::NoSpace(pid)),
+    }
+}
+
+// The space of the task of a PID.
+fn space_of_pid<Y: Layer, L: Ledger>(
+    desk: &mut Desk<'_, '_, Y>,
+    pid: u64,
+    steps: &mut Steps<L>,
+) -> Result<Space, NotRun>
+    requires kept { KeepsKernel desk.old.memory.view desk.old.file.table.now desk.old.found }
+    ensures space { IfSome desk.old.memory.view (λ view.
+        AnswersAs (and_then (kernel_of (evidence_in view desk.old.file.table.now)) (space_of_pid (evidence_in view desk.old.file.table.now) pid)) result) }
+    ensures kept { KeepsKernel desk.new.memory.view desk.new.file.table.now desk.new.found }
+    ensures file { desk.new.file ≡ desk.old.file }
+    ensures memory { IsSameMemory desk.old.memory desk.new.memory }
+    ensures cause { HasCause desk.old.memory.faults desk.new.memory.faults (IsErrOf result (NotRun.Fault WalkFault.Device)) }
+{
+    let kernel = kernel_of(desk, steps)?;
+    let ground = desk.file.ground(kernel);
+    match space_of_task(desk.alloc, ground, pid, &mut desk.memory, steps) {
+        Ok(space) => Ok(task_space_or_refusal(pid, space)?),
+        Err(TaskFault::Missing { need }) => Err(NotRun::Refused(CommandRefusal::Missing(need))),
+        Err(TaskFault::Device) => Err(NotRun::Fault(WalkFault::Device)),
+        Err(TaskFault::Memory) => Err(NotRun::Fault(WalkFault::Memory)),
+    }
+}
 
 #[tactic(auto, unfolding(crate::specs::Place::space_of))]
 fn space_of<Y: Layer, L: Ledger>(
@@ -44,7 +79,7 @@ fn space_of<Y: Layer, L: Ledger>(
             let kernel = kernel_of(desk, steps)?;
             Ok(desk.file.ground(kernel).space())
         }
-        SpaceWord::Task(_) => Err(NotRun::Refused(CommandRefusal::NotYet)),
+        SpaceWord::Task(pid) => space_of_pid(desk, pid, steps),
         SpaceWord::Root { root, levels } => Ok(Space::paged(root, levels)),
     }
 }

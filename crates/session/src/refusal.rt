@@ -2,14 +2,14 @@
 ghost use Rattle.std.specs.Prelude.{◌≡◌, IsErrOf, IfOk};
 ghost use Rattle.layer_base.specs.Counts.{HasCause};
 ghost use Rattle.layer_base.specs.Known.{Writes};
-ghost use Rattle.cell_text.specs.ErrorLine.{no_symbol_text};
+ghost use Rattle.cell_text.specs.ErrorLine.{no_symbol_text, no_task_text, no_space_text};
 ghost use Rattle.session.specs.Refusal.{refusal_text};
 ghost use Rattle.session.specs.declared.refusal.NotRun.TheVariants as whys;
 ghost use Rattle.kernel_records.specs.declared.fault.WalkFault.TheVariants as faults;
 
-use cell_text::append_no_symbol;
+use cell_text::{append_no_space, append_no_symbol, append_no_task, missing_line};
 use kernel_find::{Found, found_text};
-use kernel_records::WalkFault;
+use kernel_records::{Need, WalkFault};
 use layer_base::{Name, Sink, SinkFault, write_whole};
 use std::alloc::{AllocError, Global};
 
@@ -18,12 +18,16 @@ use std::alloc::{AllocError, Global};
 pub(crate) enum CommandRefusal {
     /// The kernel is needed, and this is what the search for it came to.
     NoKernel(Found),
+    /// The symbol file lacks this name, the first of those that the space of a task needs.
+    Missing(Need),
+    /// No task has this PID.
+    NoTask(u64),
+    /// The task of this PID has no space.
+    NoSpace(u64),
     /// No symbol has this name.
     NoSymbol(Name),
     /// The bytes pass the last address.
     OutOfRange,
-    /// Its space is not looked at yet.
-    NotYet,
 }
 
 /// Why a command is not run.
@@ -65,15 +69,33 @@ fn no_symbol_line(alloc: Global, name: &[u8]) -> Result<Vec<u8>, AllocError>
     Ok(line)
 }
 
+fn no_task_line(alloc: Global, pid: u64) -> Result<Vec<u8>, AllocError>
+    ensures { IfOk result (λ line. line.items ≡ no_task_text pid) }
+{
+    let mut line = Vec::new(alloc);
+    append_no_task(&mut line, pid)?;
+    Ok(line)
+}
+
+fn no_space_line(alloc: Global, pid: u64) -> Result<Vec<u8>, AllocError>
+    ensures { IfOk result (λ line. line.items ≡ no_space_text pid) }
+{
+    let mut line = Vec::new(alloc);
+    append_no_space(&mut line, pid)?;
+    Ok(line)
+}
+
 #[tactic(auto, unfolding(crate::specs::Refusal::refusal_text))]
 fn refusal_line(alloc: Global, refusal: &CommandRefusal) -> Result<Vec<u8>, AllocError>
     ensures { IfOk result (λ line. line.items ≡ refusal_text refusal.now) }
 {
     match refusal {
         CommandRefusal::NoKernel(found) => found_text(alloc, found),
+        CommandRefusal::Missing(need) => missing_line(alloc, *need),
+        CommandRefusal::NoTask(pid) => no_task_line(alloc, *pid),
+        CommandRefusal::NoSpace(pid) => no_space_line(alloc, *pid),
         CommandRefusal::NoSymbol(name) => no_symbol_line(alloc, name.items()),
         CommandRefusal::OutOfRange => Vec::from_slice(alloc, b"error: out of range\n"),
-        CommandRefusal::NotYet => Vec::from_slice(alloc, b"error: unknown command\n"),
     }
 }
 

@@ -1,0 +1,5 @@
+pub mod FileTable
+pub mod Lines
+pub mod Lsof
+pub mod OpenFiles
+pub mod Rows

@@ -1,0 +1,6 @@
+pub mod Members
+pub mod Pid
+pub mod Pslist
+pub mod Task
+pub mod Tasks
+pub mod TaskSpace

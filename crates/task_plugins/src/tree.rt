@@ -1,0 +1,106 @@
+//! The tree of tasks.
+ghost use Rattle.std.specs.Prelude.{◌≡◌, ◌++◌, map, slice_get, flat_map, codes, IfOk, OnOk, OnErr};
+ghost use Rattle.std.specs.Io.{StartsWith};
+ghost use Rattle.space_memory.specs.Writer.{WritesOver};
+ghost use Rattle.task_plugins.specs.Pstree.{key_of, row_behind, branch_row, tree_text};
+
+use crate::cells::append_task;
+use cell_text::append_number;
+use kernel_records::{PluginFault, Stop, Task, WalkFault};
+use layer_base::{Layer, Sink, Steps};
+use space_memory::Memory;
+use std::alloc::{AllocError, Global};
+use std::sync::ledger::Ledger;
+use tree_order::{Branch, Key, tree};
+use walk_text::{Lines, write_lines};
+
+// What a task says of its place in the tree.
+fn key_of(task: &Task) -> Key
+    ensures { result ≡ key_of task.now }
+{
+    Key {
+        pid: task.pid,
+        ppid: task.ppid,
+    }
+}
+
+fn keys_of(alloc: Global, rows: &[Task]) -> Result<Vec<Key>, AllocError>
+    ensures { IfOk result (λ keys. keys.items ≡ map key_of rows.now) }
+{
+    let mut keys = Vec::with_capacity(alloc, rows.len())?;
+    for task in rows {
+        keys.push(key_of(task))?;
+    }
+    Ok(keys)
+}
+
+// Appends the row of a place in the tree of some tasks.
+fn append_branch(text: &mut Vec<u8>, rows: &[Task], branch: Branch) -> Result<(), AllocError>
+    ensures ok { OnOk result (text.new.items ≡ text.old.items ++ branch_row rows.now branch) }
+    ensures err { OnErr result (StartsWith text.new.items text.old.items) }
+{
+    match rows.get(branch.row) {
+        Some(task) => {
+            append_number(text, branch.depth)?;
+            text.push(b'\t')?;
+            append_task(text, task)
+        }
+        None => Ok(()),
+    }
+}
+
+// The rows of the places in the tree that are still to come.
+#[derive(Clone, Copy)]
+struct TreeLines<'r> {
+    rows: &'r [Task],
+    branches: &'r [Branch],
+    stop: Stop,
+}
+
+impl Lines for TreeLines<'_> {
+    ghost use Rattle.std.specs.Prelude.{◌++◌, flat_map, length};
+    ghost use Rattle.task_plugins.specs.Pstree.{branch_row};
+    ghost use Rattle.walk_text.specs.Added.{end_line};
+
+    ghost rest = { λ lines memory. flat_map (branch_row lines.rows.now) lines.branches.now ++ end_line lines.stop };
+
+    ghost left = { λ lines. length lines.branches.now };
+
+    fn append_line<Y: Layer, L: Ledger>(
+        &mut self,
+        text: &mut Vec<u8>,
+        memory: &mut Memory<Y>,
+        steps: &mut Steps<L>,
+    ) -> Result<Option<Stop>, WalkFault> {
+        match self.branches.split_first() {
+            Some((branch, branches)) => {
+                append_branch(text, self.rows, *branch)?;
+                self.branches = branches;
+                Ok(None)
+            }
+            None => Ok(Some(self.stop)),
+        }
+    }
+}
+
+/// Writes a line of the columns' names, tasks in the order of their tree, each behind its depth, and why their ring ended.
+pub(crate) fn write_tree<Y: Layer, O: Sink, L: Ledger>(
+    alloc: Global,
+    rows: &[Task],
+    stop: Stop,
+    memory: &mut Memory<Y>,
+    out: &mut O,
+    steps: &mut Steps<L>,
+) -> Result<(), PluginFault>
+    ensures writes { WritesOver O.written O.faults out.old out.new memory.old memory.new PluginFault.Device PluginFault.Out result
+        (λ memory. tree_text rows.now stop) }
+{
+    let keys = keys_of(alloc, rows)?;
+    let branches = tree(alloc, &keys)?;
+    let mut lines = TreeLines {
+        rows,
+        branches: branches.items(),
+        stop,
+    };
+    write_lines(alloc, b"DEPTH\tOFFSET\tPID\tTID\tPPID\tCOMM\n", &mut lines, memory, out, steps)
+}
