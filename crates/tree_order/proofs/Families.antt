@@ -5,6 +5,7 @@ use Rattle.std.specs.List.{AllByRecursion}
 use Rattle.std.specs.Option.{option_eq}
 use Rattle.std.proofs.lemmas.Bool.{cases_lt, cases_eq}
 use Rattle.std.proofs.lemmas.List.{get_or_append_left, get_or_push, get_or_past, get_or-replicate, get_or-set_same, get_or-set_other, length-replicate, length_push}
+use Rattle.std.proofs.lemmas.Option.{none-some, same_Some}
 use Rattle.tree_order.specs.Climbs.{entry}
 use Rattle.tree_order.specs.Family.{rows_under, Leads, last_under, IsFamily}
 use Rattle.tree_order.specs.declared.family.Family.{Family}
@@ -41,8 +42,8 @@ module _ (f : ℕ → Option ℕ) (n : ℕ) (place : Option ℕ) (old new : Fami
   still other start leads = subst (λ before. Leads before start (rows_under f other n)) (sym pushed)
       (leads_more old.before.items (last_under old place) start (rows_under f other n) (subst (λ m. AllByRecursion (λ row. row < m) (rows_under f other n)) (sym family.count) (rows_under-below f other n)) leads)
 
-  last : entry new.before.items n ≡ last_under old place
-  last = ap (λ before. entry before n) pushed ∙ get_or_push old.before.items (last_under old place) None n family.count
+  last_entry : entry new.before.items n ≡ last_under old place
+  last_entry = ap (λ before. entry before n) pushed ∙ get_or_push old.before.items (last_under old place) None n family.count
 
   leads : (other : Option ℕ) → Leads new.before.items (last_under new other) (rows_under f other (suc n))
   unfolding rows_under Leads
@@ -51,7 +52,7 @@ module _ (f : ℕ → Option ℕ) (n : ℕ) (place : Option ℕ) (old new : Fami
         | true ↦ λ same.
             let here : place ≡ other = sym is ∙ same_place (f n) other same in
             subst (λ o. (last_under new o ≡ Some n) × Leads new.before.items (entry new.before.items n) (rows_under f o n)) here
-              (own, still place (entry new.before.items n) (subst (λ o. Leads old.before.items o (rows_under f place n)) (sym last) (family.leads place)))
+              (own, still place (entry new.before.items n) (subst (λ o. Leads old.before.items o (rows_under f place n)) (sym last_entry) (family.leads place)))
         | false ↦ λ differs. subst (λ o. Leads new.before.items o (rows_under f other n)) (sym (others other (ap (λ o. option_eq nat_eq o other) (sym is) ∙ differs))) (still other (last_under old other) (family.leads other))
       ]) refl
 
@@ -59,7 +60,7 @@ module _ (f : ℕ → Option ℕ) (n : ℕ) (place : Option ℕ) (old new : Fami
   falls row =
       ⊎_elim
       (λ same. subst (λ r. IfSome (entry new.before.items r) (λ before. before < r)) (sym same)
-        (subst (λ o. IfSome o (λ before. before < n)) (sym last) (leads_first old.before.items (last_under old place) (rows_under f place n) (λ row. row < n) (rows_under-below f place n) (family.leads place))))
+        (subst (λ o. IfSome o (λ before. before < n)) (sym last_entry) (leads_first old.before.items (last_under old place) (rows_under f place n) (λ row. row < n) (rows_under-below f place n) (family.leads place))))
       (λ differs. ⊎_elim
         (λ lt.
           let inside : row < length old.before.items = omega (arith, family.count) in
@@ -120,3 +121,16 @@ family_top f n old new family is pushed top last =
         | None ↦ λ differs. absurd (true≢false differs)
         | Some other ↦ λ differs. ap (λ items. get_or items other None) last
       ])
+
+-- from a row that is there on
+pub lead_on : (before : List (Option ℕ)) (row : ℕ) (rows : List ℕ) → Leads before (Some row) rows → (rest : List ℕ) × (rows ≡ row ∷ rest) × Leads before (entry before row) rest
+unfolding Leads
+lead_on before row [] leads = absurd (none-some row (sym leads))
+lead_on before row (first ∷ rest) leads =
+    let same : row ≡ first = same_Some row first leads.0 in
+    (rest, ap (λ r. r ∷ rest) (sym same), subst (λ r. Leads before (entry before r) rest) (sym same) leads.1)
+
+pub lead_end : (before : List (Option ℕ)) (rows : List ℕ) → Leads before None rows → rows ≡ []
+unfolding Leads
+lead_end before [] leads = refl
+lead_end before (first ∷ rest) leads = absurd (none-some first leads.0)

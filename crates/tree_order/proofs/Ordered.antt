@@ -21,7 +21,7 @@ map_same : {X Y : Type 0} (g h : X → Y) (xs : List X) → AllByRecursion (λ x
 map_same g h [] all = refl
 map_same g h (x ∷ xs) all = λ i. all.0 i ∷ map_same g h xs all.1 i
 
-abbrev at_depth : ℕ → ℕ → Branch
+abbrev pub at_depth : ℕ → ℕ → Branch
 at_depth depth row = record { row = row; depth = depth }
 
 turned : (f : ℕ → Option ℕ) (place : Option ℕ) (n : ℕ) → rows_under f place n ≡ reverse (in_order f place n)
