@@ -28,8 +28,8 @@ pub(crate) struct FileLines<'t> {
 }
 
 impl FileLines<'_> {
-    // Appends the row of a file, and those of the words behind it that are the same file.
-    fn append_files<Y: Layer, L: Ledger>(
+    // Appends the row of a word that is a file, and those of the words behind it that are the same file; 0 is no file.
+    fn append_word<Y: Layer, L: Ledger>(
         &mut self,
         text: &mut Vec<u8>,
         descriptor: u64,
@@ -37,7 +37,6 @@ impl FileLines<'_> {
         memory: &mut Memory<Y>,
         steps: &mut Steps<L>,
     ) -> Result<(), WalkFault>
-        requires some { 1 ≤ file }
         requires next { self.old.slots.index ≡ descriptor + 1 }
         ensures lines { IfSome memory.old.view (λ view. OnOk result (
             text.new.items ++ rest_of (physical view) self.new ≡ text.old.items ++ rest_from (physical view) self.old descriptor (Some file))) }
@@ -46,6 +45,9 @@ impl FileLines<'_> {
         ensures memory { IsSameMemory memory.old memory.new }
         ensures cause { HasCause memory.old.faults memory.new.faults (IsErrOf result WalkFault.Device) }
     {
+        if file == 0 {
+            return Ok(());
+        }
         make_cells(&mut self.cells, &self.paths, file, memory, steps)?;
         append_row(text, descriptor, &self.cells)?;
         append_same(text, &mut self.slots, file, &self.cells)?;
@@ -72,9 +74,8 @@ impl FileLines<'_> {
     {
         match slot.word {
             None => Ok(Some(Stop::Unreadable { at: slot.at })),
-            Some(0) => Ok(None),
             Some(file) => {
-                self.append_files(text, slot.index, file, memory, steps)?;
+                self.append_word(text, slot.index, file, memory, steps)?;
                 Ok(None)
             }
         }
@@ -95,9 +96,9 @@ impl Lines for FileLines<'_> {
         memory: &mut Memory<Y>,
         steps: &mut Steps<L>,
     ) -> Result<Option<Stop>, WalkFault> {
-        let Some(slot) = self.slots.next_word(memory, steps)? else {
-            return Ok(Some(self.slots.stop()));
-        };
-        self.append_slot(text, slot, memory, steps)
+        match self.slots.next_word(memory, steps)? {
+            Some(slot) => self.append_slot(text, slot, memory, steps),
+            None => Ok(Some(self.slots.stop())),
+        }
     }
 }

@@ -1,5 +1,5 @@
 //! The rows of open files.
-ghost use Rattle.std.specs.Prelude.{◌≡◌, ℕ, ◌≤◌, List, ◌++◌, decimal, IfSome, OnOk, OnErr};
+ghost use Rattle.std.specs.Prelude.{◌≡◌, ℕ, ◌≤◌, List, ◌++◌, decimal, IfSome, IsErrOf, OnOk, OnErr};
 ghost use Rattle.std.specs.Io.{StartsWith};
 ghost use Rattle.layer_base.specs.AddressSpace.{AddressSpace};
 ghost use Rattle.layer_base.specs.Counts.{HasCause};
@@ -70,10 +70,10 @@ pub(crate) fn append_same(
     ensures table { slots.new.table ≡ slots.old.table }
 {
     'same: while text.len() < FULL {
-        let Some(slot) = slots.next_same(file) else {
-            return Ok(());
-        };
-        append_row(text, slot.index, cells)?;
+        match slots.next_same(file) {
+            Some(slot) => append_row(text, slot.index, cells)?,
+            None => return Ok(()),
+        }
     }
     Ok(())
 }

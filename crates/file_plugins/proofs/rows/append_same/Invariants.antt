@@ -7,8 +7,8 @@ use Rattle.file_plugins.proofs.rows.append_same.Given as goal
 
 -- the text and the lines that are left are what they were at first
 abbrev pub invariant-same : goal.invariant-same
-invariant-same g l = record {
-  lines : (cells_of : ℕ → List ℕ) (memory : AddressSpace) → cells_of l.file ≡ l.cells.now → l.text.items ++ lines_left cells_of memory l.slots ≡ l.initial.text.items ++ lines_left cells_of memory l.initial.slots;
+invariant-same l = record {
+  lines : (cells_of : ℕ → List ℕ) (memory : AddressSpace) → cells_of l.file ≡ l.cells → l.text.items ++ lines_left cells_of memory l.slots ≡ l.initial.text.items ++ lines_left cells_of memory l.initial.slots;
   front : StartsWith l.text.items l.initial.text.items;
   left : count_left l.slots ≤ count_left l.initial.slots;
   space : l.slots.space ≡ l.initial.slots.space;
@@ -16,4 +16,4 @@ invariant-same g l = record {
 }
 
 abbrev pub decreases-same : goal.decreases-same
-decreases-same g l = count_left l.slots
+decreases-same l = count_left l.slots
