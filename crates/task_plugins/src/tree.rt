@@ -1,5 +1,5 @@
 //! The tree of tasks.
-ghost use Rattle.std.specs.Prelude.{◌≡◌, ◌++◌, map, slice_get, flat_map, codes, IfOk, OnOk, OnErr};
+ghost use Rattle.std.specs.Prelude.{◌≡◌, ◌++◌, map, slice_get, flat_map, codes, Some, IfOk, OnOk, OnErr};
 ghost use Rattle.std.specs.Io.{StartsWith};
 ghost use Rattle.space_memory.specs.Writer.{WritesOver};
 ghost use Rattle.tree_order.specs.Tree as order;
@@ -43,17 +43,24 @@ fn branches_of(alloc: Global, rows: &[Task]) -> Result<Rows<Branch>, AllocError>
     tree(alloc, &keys)
 }
 
+// Appends a task behind its depth in the tree.
+fn append_behind(text: &mut Vec<u8>, depth: usize, task: &Task) -> Result<(), AllocError>
+    ensures ok { OnOk result (text.new.items ≡ text.old.items ++ row_behind depth (Some task.now)) }
+    ensures err { OnErr result (StartsWith text.new.items text.old.items) }
+{
+    append_number(text, depth)?;
+    text.push(b'\t')?;
+    append_task(text, task)?;
+    Ok(())
+}
+
 // Appends the row of a place in the tree of some tasks.
 fn append_branch(text: &mut Vec<u8>, rows: &[Task], branch: Branch) -> Result<(), AllocError>
     ensures ok { OnOk result (text.new.items ≡ text.old.items ++ branch_row rows.now branch) }
     ensures err { OnErr result (StartsWith text.new.items text.old.items) }
 {
     match rows.get(branch.row) {
-        Some(task) => {
-            append_number(text, branch.depth)?;
-            text.push(b'\t')?;
-            append_task(text, task)
-        }
+        Some(task) => append_behind(text, branch.depth, task),
         None => Ok(()),
     }
 }
