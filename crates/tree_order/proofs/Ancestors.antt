@@ -44,9 +44,9 @@ ring-always f d row ring k =
 first_of-cases : (row : ℕ) (other : Option ℕ) → (first_of row other ≡ row) ⊎ (other ≡ Some (first_of row other))
 first_of-cases row None = inl refl
 first_of-cases row (Some other) = elim (cases_lt row other) [
-    | inl lt ↦ let same : min row other ≡ row = omega arith in inl same
-    | inr ge ↦ let same : other ≡ min row other = omega arith in inr (ap Some same)
-    ]
+  | inl lt ↦ let same : min row other ≡ row = omega arith in inl same
+  | inr ge ↦ let same : other ≡ min row other = omega arith in inr (ap Some same)
+]
 
 first_of-le : (row : ℕ) (other : Option ℕ) → first_of row other ≤ row
 first_of-le row None = omega arith

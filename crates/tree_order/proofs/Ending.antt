@@ -1,5 +1,5 @@
 -- Each row comes to a top, and so its path is the one of the row over it and the row.
-use Rattle.std.proofs.Common.{◌≡◌, ℕ, zero, suc, ◌+◌, ◌-◌, ◌<◌, ◌≤◌, false, eqb, List, [], ◌∷◌, ◌++◌, length, Option, Some, None, IfSome, unwrap_or, refl, ap, sym, subst, ◌∙◌, arith, ne_eqb}
+use Rattle.std.proofs.Common.{◌≡◌, ℕ, zero, suc, ◌<◌, ◌≤◌, false, eqb, List, [], ◌∷◌, ◌++◌, length, Option, Some, None, IfSome, unwrap_or, refl, ap, sym, subst, ◌∙◌, arith, ne_eqb}
 use Rattle.std.specs.Prelude.{option_and_then, option_map}
 use Rattle.std.specs.List.{AllByRecursion, IsDistinct}
 use Rattle.std.proofs.lemmas.Map.Keys.{IsDistinct-cons}
@@ -63,8 +63,8 @@ over-forest up n within =
     record {
       within = within_over;
       ends = λ row. ends_from_length (over up n) n row (length-le_from_distinct_below (rows_above (over up n) (suc n) row) n
-        (distinct_above (over up n) n (suc n) row (λ d other lt ring. over-no_ring up n d other lt ring) (omega arith))
-        (λ other is. all_in (λ r. r < n) other (rows_above (over up n) (suc n) row) (all_above (over up n) (suc n) row (λ r. r < n) (λ t above lt higher. ancestor-below (over up n) n within_over t row above higher)) is));
+          (distinct_above (over up n) n (suc n) row (λ d other lt ring. over-no_ring up n d other lt ring) (omega arith))
+          (λ other is. all_in (λ r. r < n) other (rows_above (over up n) (suc n) row) (all_above (over up n) (suc n) row (λ r. r < n) (λ t above lt higher. ancestor-below (over up n) n within_over t row above higher)) is));
     }
 
 path_under-ends : (f : ℕ → Option ℕ) (n row : ℕ) → Ends f n row → path_under f (suc n) row ≡ path_under f n row

@@ -1,5 +1,5 @@
 -- The family of some rows, and of one row more.
-use Rattle.std.proofs.Common.{◌≡◌, ◌≢◌, ℕ, zero, suc, ◌+◌, ◌<◌, ◌≤◌, true, false, cond, List, [], ◌∷◌, ◌++◌, length, get_or, set, replicate, Option, Some, None, IfSome, refl, ap, sym, subst, ◌∙◌, ⊎_elim, inl, inr, arith, add-one, eq-eqb, ne_eqb, true≢false}
+use Rattle.std.proofs.Common.{◌≡◌, ◌≢◌, ℕ, zero, suc, ◌+◌, ◌<◌, ◌≤◌, true, false, cond, List, [], ◌∷◌, ◌++◌, length, get_or, set, replicate, Option, Some, None, IfSome, refl, ap, sym, subst, ◌∙◌, ⊎_elim, inl, inr, arith, add-one, eq-eqb, true≢false}
 use Rattle.std.specs.Prelude.{nat_eq}
 use Rattle.std.specs.List.{AllByRecursion}
 use Rattle.std.specs.Option.{option_eq}
@@ -9,7 +9,7 @@ use Rattle.std.proofs.lemmas.Option.{none-some, same_Some}
 use Rattle.tree_order.specs.Climbs.{entry}
 use Rattle.tree_order.specs.Family.{rows_under, Leads, last_under, IsFamily}
 use Rattle.tree_order.specs.declared.family.Family.{Family}
-use Rattle.tree_order.proofs.Wide.{same_place, place_itself}
+use Rattle.tree_order.proofs.Wide.{same_place}
 
 pub all_rows_under : (f : ℕ → Option ℕ) (place : Option ℕ) (P : ℕ → Type 0) (n : ℕ) → ((row : ℕ) → row < n → f row ≡ place → P row) → AllByRecursion P (rows_under f place n)
 unfolding rows_under
@@ -52,7 +52,7 @@ module _ (f : ℕ → Option ℕ) (n : ℕ) (place : Option ℕ) (old new : Fami
         | true ↦ λ same.
             let here : place ≡ other = sym is ∙ same_place (f n) other same in
             subst (λ o. (last_under new o ≡ Some n) × Leads new.before.items (entry new.before.items n) (rows_under f o n)) here
-              (own, still place (entry new.before.items n) (subst (λ o. Leads old.before.items o (rows_under f place n)) (sym last_entry) (family.leads place)))
+            (own, still place (entry new.before.items n) (subst (λ o. Leads old.before.items o (rows_under f place n)) (sym last_entry) (family.leads place)))
         | false ↦ λ differs. subst (λ o. Leads new.before.items o (rows_under f other n)) (sym (others other (ap (λ o. option_eq nat_eq o other) (sym is) ∙ differs))) (still other (last_under old other) (family.leads other))
       ]) refl
 
@@ -60,16 +60,16 @@ module _ (f : ℕ → Option ℕ) (n : ℕ) (place : Option ℕ) (old new : Fami
   falls row =
       ⊎_elim
       (λ same. subst (λ r. IfSome (entry new.before.items r) (λ before. before < r)) (sym same)
-        (subst (λ o. IfSome o (λ before. before < n)) (sym last_entry) (leads_first old.before.items (last_under old place) (rows_under f place n) (λ row. row < n) (rows_under-below f place n) (family.leads place))))
+      (subst (λ o. IfSome o (λ before. before < n)) (sym last_entry) (leads_first old.before.items (last_under old place) (rows_under f place n) (λ row. row < n) (rows_under-below f place n) (family.leads place))))
       (λ differs. ⊎_elim
-        (λ lt.
-          let inside : row < length old.before.items = omega (arith, family.count) in
-          subst (λ o. IfSome o (λ before. before < row)) (sym (ap (λ before. entry before row) pushed ∙ get_or_append_left old.before.items (last_under old place ∷ []) None row inside)) (family.falls row))
-        (λ ge.
-          let size : length new.before.items ≡ n + 1 = ap length pushed ∙ length_push old.before.items (last_under old place) ∙ ap (λ m. m + 1) family.count in
-          let past : length new.before.items ≤ row = omega (arith, size, differs, ge) in
-          subst (λ o. IfSome o (λ before. before < row)) (sym (get_or_past new.before.items row None past)) tt)
-        (cases_lt row n))
+      (λ lt.
+      let inside : row < length old.before.items = omega (arith, family.count) in
+      subst (λ o. IfSome o (λ before. before < row)) (sym (ap (λ before. entry before row) pushed ∙ get_or_append_left old.before.items (last_under old place ∷ []) None row inside)) (family.falls row))
+      (λ ge.
+      let size : length new.before.items ≡ n + 1 = ap length pushed ∙ length_push old.before.items (last_under old place) ∙ ap (λ m. m + 1) family.count in
+      let past : length new.before.items ≤ row = omega (arith, size, differs, ge) in
+      subst (λ o. IfSome o (λ before. before < row)) (sym (get_or_past new.before.items row None past)) tt)
+      (cases_lt row n))
       (cases_eq row n)
 
   -- one row more
@@ -108,19 +108,19 @@ pub family_under : (f : ℕ → Option ℕ) (n parent : ℕ) (old new : Family) 
     → new.last_top ≡ old.last_top → new.last.items ≡ set old.last.items parent (Some n) → IsFamily f (n + 1) new
 family_under f n parent old new family is inside pushed top last =
     family_more f n (Some parent) old new family is pushed (ap (λ items. get_or items parent None) last ∙ get_or-set_same old.last.items parent (Some n) None inside)
-      (elim [
-        | None ↦ λ differs. top
-        | Some other ↦ λ differs. ap (λ items. get_or items other None) last ∙ get_or-set_other old.last.items parent other (Some n) None (apart parent other differs)
-      ])
+    (elim [
+      | None ↦ λ differs. top
+      | Some other ↦ λ differs. ap (λ items. get_or items other None) last ∙ get_or-set_other old.last.items parent other (Some n) None (apart parent other differs)
+    ])
 
 -- a top more
 pub family_top : (f : ℕ → Option ℕ) (n : ℕ) (old new : Family) → IsFamily f n old → f n ≡ None → new.before.items ≡ old.before.items ++ old.last_top ∷ [] → new.last_top ≡ Some n → new.last.items ≡ old.last.items → IsFamily f (n + 1) new
 family_top f n old new family is pushed top last =
     family_more f n None old new family is pushed top
-      (elim [
-        | None ↦ λ differs. absurd (true≢false differs)
-        | Some other ↦ λ differs. ap (λ items. get_or items other None) last
-      ])
+    (elim [
+      | None ↦ λ differs. absurd (true≢false differs)
+      | Some other ↦ λ differs. ap (λ items. get_or items other None) last
+    ])
 
 -- from a row that is there on
 pub lead_on : (before : List (Option ℕ)) (row : ℕ) (rows : List ℕ) → Leads before (Some row) rows → (rest : List ℕ) × (rows ≡ row ∷ rest) × Leads before (entry before row) rest

@@ -1,5 +1,5 @@
 -- Which rows have a PID, and parents as a list.
-use Rattle.std.proofs.Common.{◌≡◌, ℕ, ℤ, pos, negsuc, zero, suc, ◌+◌, ◌<◌, ◌≤◌, ◌⊎◌, Bool, true, false, cond, List, [], ◌∷◌, ◌++◌, length, map, get_or, take, Option, Some, None, refl, ap, sym, ◌∙◌, ⊎_elim, inl, inr, eqb, arith, lt-ltb, le-ltb, eq-eqb, ne_eqb, true≢false, is_some, nat_cmp, int_eq, is_eq, Ordering, Less, Equal, Greater}
+use Rattle.std.proofs.Common.{◌≡◌, ℕ, ℤ, pos, negsuc, zero, suc, ◌+◌, ◌<◌, ◌≤◌, Bool, true, false, cond, List, [], ◌∷◌, ◌++◌, length, map, get_or, take, Option, Some, None, refl, ap, sym, ◌∙◌, ⊎_elim, eqb, arith, lt-ltb, le-ltb, eq-eqb, ne_eqb, true≢false, is_some, nat_cmp, int_eq, is_eq, Ordering, Less, Equal, Greater}
 use Rattle.std.specs.Prelude.{option_and_then, slice_get, position, nat_lt}
 use Rattle.std.specs.Cmp.{signed_Decides}
 use Rattle.std.specs.List.{position_or_len}
@@ -29,18 +29,18 @@ place_more : (a n : ℕ) (b : Bool) → a ≤ n → cond (nat_lt (cond (eqb a n)
 place_more a n b le =
     ⊎_elim
     (λ lt.
-      let differs : eqb a n ≡ false = ne_eqb a n (λ same. omega (arith, same, lt)) in
-      let inside : nat_lt a (n + 1) ≡ true = lt-ltb a (n + 1) (omega (arith, lt)) in
-      let before : nat_lt a n ≡ true = lt-ltb a n lt in
-      (λ i. cond (nat_lt (cond (differs i) (n + cond b 0 1) a) (n + 1)) (Some (cond (differs i) (n + cond b 0 1) a)) None)
-      ∙ (λ i. cond (inside i) (Some a) None)
-      ∙ sym (λ i. option_or (cond (before i) (Some a) None) (cond b (Some n) None)))
+    let differs : eqb a n ≡ false = ne_eqb a n (λ same. omega (arith, same, lt)) in
+    let inside : nat_lt a (n + 1) ≡ true = lt-ltb a (n + 1) (omega (arith, lt)) in
+    let before : nat_lt a n ≡ true = lt-ltb a n lt in
+    (λ i. cond (nat_lt (cond (differs i) (n + cond b 0 1) a) (n + 1)) (Some (cond (differs i) (n + cond b 0 1) a)) None)
+    ∙ (λ i. cond (inside i) (Some a) None)
+    ∙ sym (λ i. option_or (cond (before i) (Some a) None) (cond b (Some n) None)))
     (λ ge.
-      let same : eqb a n ≡ true = eq-eqb a n (omega (arith, ge, le)) in
-      let past : nat_lt a n ≡ false = le-ltb a n ge in
-      (λ i. cond (nat_lt (cond (same i) (n + cond b 0 1) a) (n + 1)) (Some (cond (same i) (n + cond b 0 1) a)) None)
-      ∙ at_end n b
-      ∙ sym (λ i. option_or (cond (past i) (Some a) None) (cond b (Some n) None)))
+    let same : eqb a n ≡ true = eq-eqb a n (omega (arith, ge, le)) in
+    let past : nat_lt a n ≡ false = le-ltb a n ge in
+    (λ i. cond (nat_lt (cond (same i) (n + cond b 0 1) a) (n + 1)) (Some (cond (same i) (n + cond b 0 1) a)) None)
+    ∙ at_end n b
+    ∙ sym (λ i. option_or (cond (past i) (Some a) None) (cond b (Some n) None)))
     (cases_lt a n)
 
 -- the first place that passes, where one more stands at the end

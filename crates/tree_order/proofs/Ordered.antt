@@ -1,12 +1,12 @@
 -- The walk as the code makes it: rows that are done, with their depths, and rows that are pending, the last one first.
-use Rattle.std.proofs.Common.{◌≡◌, ℕ, zero, suc, ◌+◌, ◌-◌, ◌<◌, ◌≤◌, List, [], ◌∷◌, ◌++◌, length, map, reverse, Option, Some, None, unwrap_or, refl, ap, sym, subst, ◌∙◌, arith, length-append, eqb}
+use Rattle.std.proofs.Common.{◌≡◌, ℕ, ◌+◌, ◌-◌, ◌<◌, ◌≤◌, List, [], ◌∷◌, ◌++◌, length, map, reverse, Option, Some, None, unwrap_or, refl, ap, sym, subst, ◌∙◌, arith, length-append}
 use Rattle.std.specs.Prelude.{option_map}
 use Rattle.std.specs.List.{AllByRecursion}
 use Rattle.std.proofs.lemmas.List.{length-map, length_push, map-append, map_push, reverse-append, reverse-reverse, same_from_push}
 use Rattle.tree_order.specs.Climbs.{entry}
 use Rattle.tree_order.specs.Family.{rows_under, Leads, IsFamily}
 use Rattle.tree_order.specs.Forest.{IsForest}
-use Rattle.tree_order.specs.Tree.{branch, branches, path_under, sorted_rows}
+use Rattle.tree_order.specs.Tree.{branch, branches, path_under}
 use Rattle.tree_order.specs.declared.branch.Branch.{Branch}
 use Rattle.tree_order.specs.declared.family.Family.{Family}
 use Rattle.tree_order.proofs.Ending.{path-step}
@@ -32,10 +32,10 @@ under-branches : (f : ℕ → Option ℕ) (n : ℕ) → IsForest f n → (place 
     → map (at_depth depth) (rows_under f place n) ≡ map (branch (path_under f n)) (reverse (in_order f place n))
 under-branches f n forest place depth size =
     map_same (at_depth depth) (branch (path_under f n)) (rows_under f place n)
-      (all_rows_under f place (λ row. at_depth depth row ≡ branch (path_under f n) row) n (λ row lt is.
-        let longer : length (path_under f n row) ≡ length (unwrap_or (option_map (path_under f n) place) []) + 1 = ap length (path-at f n forest place row is) ∙ length-append (unwrap_or (option_map (path_under f n) place) []) (row ∷ []) in
-        let same : depth ≡ length (path_under f n row) - 1 = omega (arith, size, longer) in
-        ap (λ d. at_depth d row) same))
+    (all_rows_under f place (λ row. at_depth depth row ≡ branch (path_under f n) row) n (λ row lt is.
+    let longer : length (path_under f n row) ≡ length (unwrap_or (option_map (path_under f n) place) []) + 1 = ap length (path-at f n forest place row is) ∙ length-append (unwrap_or (option_map (path_under f n) place) []) (row ∷ []) in
+    let same : depth ≡ length (path_under f n row) - 1 = omega (arith, size, longer) in
+    ap (λ d. at_depth d row) same))
     ∙ ap (map (branch (path_under f n))) (turned f place n)
 
 pub state-start : (f : ℕ → Option ℕ) (n : ℕ) → IsForest f n → (family : Family) → IsFamily f n family → (items : List Branch)
@@ -72,15 +72,14 @@ module _ (f : ℕ → Option ℕ) (n : ℕ) (forest : IsForest f n) where
       let rest : List ℕ = pop.1 in
       let same_row : row ≡ last.row = sym (ap (λ (b : Branch). b.row) pop.3) in
       let depth : last.depth + 1 ≡ length (path row) = ap (λ (b : Branch). b.depth + 1) pop.3 ∙ sym (long_enough row) in
-      let leads = subst (λ r. Leads family.before.items (entry family.last.items r) (rows_under f (Some row) n)) same_row (is.leads (Some row)) in
-      (
+      let leads = subst (λ r. Leads family.before.items (entry family.last.items r) (rows_under f (Some row) n)) same_row (is.leads (Some row)) in (
         state.0 ++ row ∷ [],
         in_order f (Some row) n ++ rest,
         (λ i. state.2 i ++ pop.3 i ∷ []) ∙ sym (map_push (branch path) state.0 row),
         by_rows (rows_under f (Some row) n) leads
-          ∙ (λ i. pop.4 i ++ under-branches f n forest (Some row) (last.depth + 1) depth i)
-          ∙ sym (map-append (branch path) (reverse rest) (reverse (in_order f (Some row) n)))
-          ∙ ap (map (branch path)) (sym (reverse-append (in_order f (Some row) n) rest)),
+            ∙ (λ i. pop.4 i ++ under-branches f n forest (Some row) (last.depth + 1) depth i)
+            ∙ sym (map-append (branch path) (reverse rest) (reverse (in_order f (Some row) n)))
+            ∙ ap (map (branch path)) (sym (reverse-append (in_order f (Some row) n) rest)),
         walk-step f n forest state.0 row rest (subst (IsWalk f n state.0) pop.2 state.4),
       )
 

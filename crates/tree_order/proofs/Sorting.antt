@@ -1,8 +1,7 @@
 -- A list of rows in the order of their paths is what is in it.
-use Rattle.std.proofs.Common.{◌≡◌, ◌≢◌, ℕ, zero, suc, ◌+◌, ◌<◌, true, List, [], ◌∷◌, ◌++◌, refl, ap, sym, subst, ◌∙◌, ⊎_elim, inl, inr, Ordering, Less, Equal, Greater, is_lt, nat_cmp, arith, eqb, ne_eqb, false}
+use Rattle.std.proofs.Common.{◌≡◌, ℕ, zero, suc, ◌<◌, List, [], ◌∷◌, refl, ap, sym, subst, ◌∙◌, ⊎_elim, inl, inr, Ordering, Less, Equal, Greater, is_lt, arith, eqb, ne_eqb, false}
 use Rattle.std.specs.BTreeSet.{insert_key}
 use Rattle.std.specs.Cmp.{IsTotalOrder}
-use Rattle.std.specs.Cmp.Lexicographic.{slice_cmp}
 use Rattle.std.specs.List.{AllByRecursion, IsDistinct}
 use Rattle.std.specs.List.Sorted.{IsStrictlySortedBy}
 use Rattle.std.specs.Ordering.{match_ordering, ordering_reverse}
@@ -15,7 +14,7 @@ use Rattle.tree_order.proofs.Wide.{by_path}
 
 module _ (cmp : ℕ → ℕ → Ordering) (total : IsTotalOrder cmp) (exact : (row other : ℕ) → cmp row other ≡ Equal → row ≡ other) where
   not_itself : (row other : ℕ) → cmp row other ≡ Less → row ≡ other → ⊥
-  not_itself row other less same = false≢true (sym (ap is_lt (ap (cmp row) (sym same) ∙ tied_itself total row)) ∙ ap is_lt less) 
+  not_itself row other less same = false≢true (sym (ap is_lt (ap (cmp row) (sym same) ∙ tied_itself total row)) ∙ ap is_lt less)
 
   not_both : (row other : ℕ) → cmp row other ≡ Less → cmp other row ≡ Less → ⊥
   not_both row other less back = false≢true (sym (ap is_lt (total.antisymm row other ∙ ap ordering_reverse back)) ∙ ap is_lt less)
@@ -29,8 +28,7 @@ module _ (cmp : ℕ → ℕ → Ordering) (total : IsTotalOrder cmp) (exact : (r
   in_inserted : (rows : List ℕ) (row found : ℕ) → In found rows → In found (insert_key cmp rows row)
   in_inserted [] row found is = absurd (in_none found is)
   in_inserted (other ∷ rows) row found is =
-      elim (cmp row other) as (λ o. In found (match_ordering o (row ∷ other ∷ rows) (other ∷ rows) (other ∷ insert_key cmp rows row)))
-      [
+      elim (cmp row other) as (λ o. In found (match_ordering o (row ∷ other ∷ rows) (other ∷ rows) (other ∷ insert_key cmp rows row))) [
         | Less ↦ in_tail found row (other ∷ rows) is
         | Equal ↦ is
         | Greater ↦ ⊎_elim (λ here. in_head found other (insert_key cmp rows row) here) (λ there. in_tail found other (insert_key cmp rows row) (in_inserted rows row found there)) (in_cons found other rows is)
@@ -39,8 +37,7 @@ module _ (cmp : ℕ → ℕ → Ordering) (total : IsTotalOrder cmp) (exact : (r
   inserted_in : (rows : List ℕ) (row : ℕ) → In row (insert_key cmp rows row)
   inserted_in [] row = in_head row row [] refl
   inserted_in (other ∷ rows) row =
-      (elim (cmp row other) as (λ o. cmp row other ≡ o → In row (match_ordering o (row ∷ other ∷ rows) (other ∷ rows) (other ∷ insert_key cmp rows row)))
-      [
+      (elim (cmp row other) as (λ o. cmp row other ≡ o → In row (match_ordering o (row ∷ other ∷ rows) (other ∷ rows) (other ∷ insert_key cmp rows row))) [
         | Less ↦ λ is. in_head row row (other ∷ rows) refl
         | Equal ↦ λ is. in_head row other rows (exact row other is)
         | Greater ↦ λ is. in_tail row other (insert_key cmp rows row) (inserted_in rows row)
@@ -50,8 +47,7 @@ module _ (cmp : ℕ → ℕ → Ordering) (total : IsTotalOrder cmp) (exact : (r
   unfolding IsStrictlySortedBy
   sorted_inserted [] row sorted = (tt, tt)
   sorted_inserted (other ∷ rows) row sorted =
-      (elim (cmp row other) as (λ o. cmp row other ≡ o → IsStrictlySortedBy cmp (match_ordering o (row ∷ other ∷ rows) (other ∷ rows) (other ∷ insert_key cmp rows row)))
-      [
+      (elim (cmp row other) as (λ o. cmp row other ≡ o → IsStrictlySortedBy cmp (match_ordering o (row ∷ other ∷ rows) (other ∷ rows) (other ∷ insert_key cmp rows row))) [
         | Less ↦ λ is. ((is, all_more (λ y. cmp other y ≡ Less) (λ y. cmp row y ≡ Less) (λ y more. total.trans row other y is more) rows sorted.0), sorted)
         | Equal ↦ λ is. sorted
         | Greater ↦ λ is. (all_inserted (λ y. cmp other y ≡ Less) rows row sorted.0 (total.antisymm other row ∙ ap ordering_reverse is), sorted_inserted rows row sorted.1)
@@ -71,13 +67,13 @@ module _ (cmp : ℕ → ℕ → Ordering) (total : IsTotalOrder cmp) (exact : (r
   same_sorted (x ∷ xs) [] s t there back = absurd (in_none x (there x (in_head x x xs refl)))
   same_sorted (x ∷ xs) (y ∷ ys) s t there back =
       let heads : x ≡ y = ⊎_elim (λ same. same)
-          (λ later. ⊎_elim (λ same. sym same)
-            (λ before. absurd (not_both y x (all_in (λ r. cmp y r ≡ Less) x ys t.0 later) (all_in (λ r. cmp x r ≡ Less) y xs s.0 before)))
-            (in_cons y x xs (back y (in_head y y ys refl))))
-          (in_cons x y ys (there x (in_head x x xs refl))) in
+      (λ later. ⊎_elim (λ same. sym same)
+      (λ before. absurd (not_both y x (all_in (λ r. cmp y r ≡ Less) x ys t.0 later) (all_in (λ r. cmp x r ≡ Less) y xs s.0 before)))
+      (in_cons y x xs (back y (in_head y y ys refl))))
+      (in_cons x y ys (there x (in_head x x xs refl))) in
       let tails : xs ≡ ys = same_sorted xs ys s.1 t.1
-          (λ row is. ⊎_elim (λ same. absurd (not_itself x row (all_in (λ r. cmp x r ≡ Less) row xs s.0 is) (heads ∙ sym same))) (λ found. found) (in_cons row y ys (there row (in_tail row x xs is))))
-          (λ row is. ⊎_elim (λ same. absurd (not_itself y row (all_in (λ r. cmp y r ≡ Less) row ys t.0 is) (sym heads ∙ sym same))) (λ found. found) (in_cons row x xs (back row (in_tail row y ys is)))) in
+      (λ row is. ⊎_elim (λ same. absurd (not_itself x row (all_in (λ r. cmp x r ≡ Less) row xs s.0 is) (heads ∙ sym same))) (λ found. found) (in_cons row y ys (there row (in_tail row x xs is))))
+      (λ row is. ⊎_elim (λ same. absurd (not_itself y row (all_in (λ r. cmp y r ≡ Less) row ys t.0 is) (sym heads ∙ sym same))) (λ found. found) (in_cons row x xs (back row (in_tail row y ys is)))) in
       λ i. heads i ∷ tails i
 
 module _ (path : ℕ → List ℕ) (total : IsTotalOrder (by_path path)) (exact : (row other : ℕ) → by_path path row other ≡ Equal → row ≡ other) where

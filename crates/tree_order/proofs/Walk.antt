@@ -1,8 +1,7 @@
 -- A walk through a forest: rows that are done, and rows that are pending, in the order in which they will be done.
-use Rattle.std.proofs.Common.{◌≡◌, ℕ, zero, suc, ◌+◌, ◌<◌, ◌≤◌, List, [], ◌∷◌, ◌++◌, length, Option, Some, None, IfSome, unwrap_or, refl, ap, sym, subst, ◌∙◌, ⊎_elim, Less, Equal, nat_cmp, arith, append_assoc, append-nil, length-append, eqb}
+use Rattle.std.proofs.Common.{◌≡◌, ℕ, zero, suc, ◌+◌, ◌<◌, ◌≤◌, List, [], ◌∷◌, ◌++◌, length, Option, Some, None, IfSome, unwrap_or, refl, ap, sym, subst, ◌∙◌, ⊎_elim, Less, Equal, arith, append_assoc, append-nil, length-append}
 use Rattle.std.specs.Prelude.{option_map}
 use Rattle.std.specs.Cmp.{IsTotalOrder}
-use Rattle.std.specs.Cmp.Lexicographic.{slice_cmp}
 use Rattle.std.specs.List.{AllByRecursion}
 use Rattle.std.specs.List.Sorted.{IsStrictlySortedBy}
 use Rattle.std.proofs.lemmas.Cmp.{on_total, nat_list_cmp_total}
@@ -12,7 +11,7 @@ use Rattle.std.proofs.lemmas.Map.Steps.{length-le_from_distinct_below}
 use Rattle.tree_order.specs.Forest.{Ends, IsForest}
 use Rattle.tree_order.specs.Tree.{path_under, sorted_rows}
 use Rattle.tree_order.proofs.Ending.{path-step}
-use Rattle.tree_order.proofs.Lists.{all_more, all_append, all_front, all_back, In, in_none, in_head, in_tail, in_cons, in_left, in_right, in_append, all_in}
+use Rattle.tree_order.proofs.Lists.{all_more, all_append, all_front, all_back, In, in_none, in_head, in_cons, in_left, in_right, in_append, all_in}
 use Rattle.tree_order.proofs.Sorting.{distinct_sorted, is_sorted_rows}
 use Rattle.tree_order.proofs.Wide.{by_path, AllWide, Wide, wide_under, less_under, less_wide, wide_append, sorted_wide, in_order, all_in_order, is_in_order, wide_in_order}
 
@@ -50,8 +49,8 @@ walk-start f n forest =
         | Some above ↦ λ is has. absurd (in_none above has)
       ]) refl;
       short = all_in_order f None (λ row. length (path row) ≤ 0 + 1) n (λ row lt is.
-        let one : length (path row) ≡ 1 = ap length (path-at f n forest None row is) in
-        omega (arith, one));
+          let one : length (path row) ≡ 1 = ap length (path-at f n forest None row is) in
+          omega (arith, one));
     }
 
 -- rows that are put behind one row and before others keep the order
@@ -61,19 +60,20 @@ unfolding IsStrictlySortedBy
 sorted_grown path total [] row under rest old less new = new
 sorted_grown path total (first ∷ done) row under rest old less new =
     let front = all_front (λ other. by_path path first other ≡ Less) done (row ∷ rest) old.0 in
-    let back = all_back (λ other. by_path path first other ≡ Less) done (row ∷ rest) old.0 in
-    (all_append (λ other. by_path path first other ≡ Less) done (row ∷ (under ++ rest)) front
-      (back.0, all_append (λ other. by_path path first other ≡ Less) under rest (all_more (λ other. by_path path row other ≡ Less) (λ other. by_path path first other ≡ Less) (λ other is. total.trans first row other back.0 is) under less) back.1),
-    sorted_grown path total done row under rest old.1 less new)
+    let back = all_back (λ other. by_path path first other ≡ Less) done (row ∷ rest) old.0 in (
+      all_append (λ other. by_path path first other ≡ Less) done (row ∷ (under ++ rest)) front
+          (back.0, all_append (λ other. by_path path first other ≡ Less) under rest (all_more (λ other. by_path path row other ≡ Less) (λ other. by_path path first other ≡ Less) (λ other is. total.trans first row other back.0 is) under less) back.1),
+      sorted_grown path total done row under rest old.1 less new,
+    )
 
 in_grown : (found row : ℕ) (done under rest : List ℕ) → In found (done ++ row ∷ rest) → In found ((done ++ row ∷ []) ++ (under ++ rest))
 in_grown found row done under rest is =
     ⊎_elim
     (λ here. in_left found (done ++ row ∷ []) (under ++ rest) (in_left found done (row ∷ []) here))
     (λ there. ⊎_elim
-      (λ same. in_left found (done ++ row ∷ []) (under ++ rest) (in_right found done (row ∷ []) (in_head found row [] same)))
-      (λ behind. in_right found (done ++ row ∷ []) (under ++ rest) (in_right found under rest behind))
-      (in_cons found row rest there))
+    (λ same. in_left found (done ++ row ∷ []) (under ++ rest) (in_right found done (row ∷ []) (in_head found row [] same)))
+    (λ behind. in_right found (done ++ row ∷ []) (under ++ rest) (in_right found under rest behind))
+    (in_cons found row rest there))
     (in_append found done (row ∷ rest) is)
 
 module _ (f : ℕ → Option ℕ) (n : ℕ) (forest : IsForest f n) (done : List ℕ) (row : ℕ) (rest : List ℕ) (walk : IsWalk f n done (row ∷ rest)) where
@@ -103,7 +103,7 @@ module _ (f : ℕ → Option ℕ) (n : ℕ) (forest : IsForest f n) (done : List
       let front = all_front (λ other. other < n) done (row ∷ rest) walk.below in
       let back = all_back (λ other. other < n) done (row ∷ rest) walk.below in
       all_append (λ other. other < n) (done ++ row ∷ []) (under ++ rest) (all_append (λ other. other < n) done (row ∷ []) front (back.0, tt))
-        (all_append (λ other. other < n) under rest (all_in_order f (Some row) (λ other. other < n) n (λ other lt is. lt)) back.1)
+      (all_append (λ other. other < n) under rest (all_in_order f (Some row) (λ other. other < n) n (λ other lt is. lt)) back.1)
 
   found : (other : ℕ) → other < n → IfSome (f other) (λ above. In above (done ++ row ∷ [])) → In other ((done ++ row ∷ []) ++ (under ++ rest))
   found other lt =
@@ -112,9 +112,9 @@ module _ (f : ℕ → Option ℕ) (n : ℕ) (forest : IsForest f n) (done : List
         | Some above ↦ λ is has. ⊎_elim
             (λ here. in_grown other row done under rest (walk.found other lt (subst (λ o. IfSome o (λ above. In above done)) (sym is) here)))
             (λ there. ⊎_elim
-              (λ same. in_right other (done ++ row ∷ []) (under ++ rest) (in_left other under rest (is_in_order f (Some row) n other lt (is ∙ ap Some same))))
-              (λ none. absurd (in_none above none))
-              (in_cons above row [] there))
+            (λ same. in_right other (done ++ row ∷ []) (under ++ rest) (in_left other under rest (is_in_order f (Some row) n other lt (is ∙ ap Some same))))
+            (λ none. absurd (in_none above none))
+            (in_cons above row [] there))
             (in_append above done (row ∷ []) has)
       ]) refl
 
@@ -122,10 +122,10 @@ module _ (f : ℕ → Option ℕ) (n : ℕ) (forest : IsForest f n) (done : List
   short =
       let more : length (done ++ row ∷ []) ≡ length done + 1 = length-append done (row ∷ []) in
       all_append (λ other. length (path other) ≤ length (done ++ row ∷ []) + 1) under rest
-        (all_in_order f (Some row) (λ other. length (path other) ≤ length (done ++ row ∷ []) + 1) n (λ other lt is.
-          let size : length (path other) ≡ length (path row) + 1 = ap length (path-at f n forest (Some row) other is) ∙ length-append (path row) (other ∷ []) in
-          omega (arith, size, more, walk.short.0)))
-        (all_more (λ other. length (path other) ≤ length done + 1) (λ other. length (path other) ≤ length (done ++ row ∷ []) + 1) (λ other le. omega (arith, le, more)) rest walk.short.1)
+      (all_in_order f (Some row) (λ other. length (path other) ≤ length (done ++ row ∷ []) + 1) n (λ other lt is.
+      let size : length (path other) ≡ length (path row) + 1 = ap length (path-at f n forest (Some row) other is) ∙ length-append (path row) (other ∷ []) in
+      omega (arith, size, more, walk.short.0)))
+      (all_more (λ other. length (path other) ≤ length done + 1) (λ other. length (path other) ≤ length (done ++ row ∷ []) + 1) (λ other le. omega (arith, le, more)) rest walk.short.1)
 
   -- the first pending row is done, and the rows under it are pending
   pub walk-step : IsWalk f n (done ++ row ∷ []) (in_order f (Some row) n ++ rest)
@@ -145,9 +145,9 @@ pub walk-end : (f : ℕ → Option ℕ) (n : ℕ) → IsForest f n → (done : L
 walk-end f n forest done walk =
     let whole : done ++ [] ≡ done = append-nil done in
     is_sorted_rows (path_under f n) (paths_total f n) (paths_exact f n forest) done n
-      (subst (IsStrictlySortedBy (by_path (path_under f n))) whole walk.sorted)
-      (subst (AllByRecursion (λ row. row < n)) whole walk.below)
-      (λ row lt. all_done f n forest done (λ other within has. subst (In other) whole (walk.found other within has)) n row (forest.ends row) lt)
+    (subst (IsStrictlySortedBy (by_path (path_under f n))) whole walk.sorted)
+    (subst (AllByRecursion (λ row. row < n)) whole walk.below)
+    (λ row lt. all_done f n forest done (λ other within has. subst (In other) whole (walk.found other within has)) n row (forest.ends row) lt)
 
 -- no more rows are done or pending than there are
 pub walk-size : (f : ℕ → Option ℕ) (n : ℕ) → IsForest f n → (done pending : List ℕ) → IsWalk f n done pending → length (done ++ pending) ≤ n

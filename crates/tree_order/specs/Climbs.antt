@@ -1,5 +1,5 @@
 -- What stands some rows above a row. `up` gives the parent of each row.
-use Rattle.std.specs.Prelude.{ℕ, zero, suc, min, List, Option, Some, None, get_or, option_and_then}
+use Rattle.std.specs.Prelude.{ℕ, zero, suc, List, Option, Some, None, get_or, option_and_then}
 use Rattle.tree_order.specs.Tops.{first_above, first_of}
 use Rattle.tree_order.specs.declared.climb.Climb.{Climb}
 

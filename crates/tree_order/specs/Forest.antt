@@ -1,5 +1,5 @@
 -- Rows that stand under one another and come to an end. `over` gives the row over each row, none for a top.
-use Rattle.std.specs.Prelude.{◌≡◌, ℕ, zero, suc, ◌<◌, List, Option, Some, None, IfSome}
+use Rattle.std.specs.Prelude.{◌≡◌, ℕ, zero, suc, ◌<◌, Option, Some, None, IfSome}
 
 -- at most so many rows are over a row
 unfoldable pub Ends : (ℕ → Option ℕ) → ℕ → ℕ → Type 0

@@ -74,7 +74,11 @@ fn joined(alloc: Global, climbs: &[Climb], next: &[Climb]) -> Result<Vec<Climb>,
 }
 
 // Climbs of so many rows. It calls itself once for half as many.
-pub(crate) fn climbs(alloc: Global, up: &[Option<usize>], rows: usize) -> Result<Vec<Climb>, AllocError>
+pub(crate) fn climbs(
+    alloc: Global,
+    up: &[Option<usize>],
+    rows: usize,
+) -> Result<Vec<Climb>, AllocError>
     requires { 0 < rows }
     ensures { IfOk result (λ climbs. (row : ℕ) → climb_at climbs.items row ≡ climb (entry up.now) rows row) }
 {

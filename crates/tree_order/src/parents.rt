@@ -41,10 +41,7 @@ fn note_row(
 }
 
 // The first row of each PID.
-fn first_rows(
-    alloc: Global,
-    keys: &[Key],
-) -> Result<BTreeMap<(bool, u128), usize>, AllocError>
+fn first_rows(alloc: Global, keys: &[Key]) -> Result<BTreeMap<(bool, u128), usize>, AllocError>
     ensures { IfOk result (λ rows. (pid : ℤ) → get key_cmp rows (sign_and_size pid) ≡ row_of keys.now pid) }
 {
     let mut rows = BTreeMap::new(alloc);

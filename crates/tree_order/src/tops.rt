@@ -18,7 +18,10 @@ fn row_over(row: usize, parent: Option<usize>, first: Option<usize>) -> Option<u
 }
 
 // The row over each row, none for a top.
-pub(crate) fn rows_over(alloc: Global, up: &[Option<usize>]) -> Result<Vec<Option<usize>>, AllocError>
+pub(crate) fn rows_over(
+    alloc: Global,
+    up: &[Option<usize>],
+) -> Result<Vec<Option<usize>>, AllocError>
     ensures over { IfOk result (λ rows. (row : ℕ) → entry rows.items row ≡ over (entry up.now) (length up.now) row) }
     ensures len { IfOk result (λ rows. length rows.items ≡ length up.now) }
 {

@@ -1,4 +1,4 @@
-use Rattle.std.proofs.Common.{◌≡◌, ◌+◌, ◌/◌, ℕ, map, ap, ◌∙◌, arith, Result, Ok, Err, IfOk}
+use Rattle.std.proofs.Common.{◌≡◌, ◌+◌, ◌/◌, ℕ, map, ap, ◌∙◌, arith}
 use Rattle.std.proofs.lemmas.Result.{IfOk-weaker}
 use Rattle.tree_order.specs.Climbs.{climb, climb_at, entry, goes_on}
 use Rattle.tree_order.proofs.Climbing.{climbs-joined}
@@ -25,6 +25,6 @@ returns t c =
     let fourth = c.deref-4.ensures.value in
     let both = λ (row : ℕ). ap (λ climbs. climb_at climbs row) twice ∙ climbs-joined (entry c.args.up.now) (c.args.rows / 2) (c.args.rows / 2) half half c.in_ok-half.ensures c.in_ok-half.ensures row in
     IfOk-weaker c.joined-2.result _ _ (λ climbs is row.
-      ap (λ l. climb_at l row) (is ∙ (λ i. map (goes_on (climb_at (fourth i))) (third i)))
-      ∙ climbs-joined (entry c.args.up.now) 1 (c.args.rows / 2 + c.args.rows / 2) once c.in_ok-twice.twice.items c.in_ok-once.ensures both row
-      ∙ ap (λ n. climb (entry c.args.up.now) n row) rows) c.joined-2.ensures
+    ap (λ l. climb_at l row) (is ∙ (λ i. map (goes_on (climb_at (fourth i))) (third i)))
+    ∙ climbs-joined (entry c.args.up.now) 1 (c.args.rows / 2 + c.args.rows / 2) once c.in_ok-twice.twice.items c.in_ok-once.ensures both row
+    ∙ ap (λ n. climb (entry c.args.up.now) n row) rows) c.joined-2.ensures

@@ -10,9 +10,9 @@ returns-in_ok-push-in-Some-clause-family c = λ over rows family is.
     let inside = rw c.in-Some.is at c.requires in
     let read = get_or_read old.last.items c.in-Some.parent c.index.result.now inside c.index.ensures None in
     family_under over rows c.in-Some.parent old _ family (is ∙ c.in-Some.is) inside
-      (c.in_ok-push-in-Some.ensures.items ∙ ap (λ last. old.before.items ++ last ∷ []) read)
-      refl
-      (ap (λ n. set old.last.items c.in-Some.parent (Some n)) row)
+    (c.in_ok-push-in-Some.ensures.items ∙ ap (λ last. old.before.items ++ last ∷ []) read)
+    refl
+    (ap (λ n. set old.last.items c.in-Some.parent (Some n)) row)
 
 pub returns-in_ok-push-in-None-clause-family : goal.returns-in_ok-push-in-None-clause-family
 returns-in_ok-push-in-None-clause-family c = λ over rows family is.

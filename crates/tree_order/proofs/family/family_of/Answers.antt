@@ -1,4 +1,4 @@
-use Rattle.std.proofs.Common.{refl, ◌∙◌, sym, arith}
+use Rattle.std.proofs.Common.{refl, ◌∙◌}
 use Rattle.tree_order.specs.Climbs.{entry}
 use Rattle.tree_order.proofs.family.family_of.Goals as goal
 
@@ -7,6 +7,6 @@ loop-place-init c = record { family = c.in_ok-family.ensures.family (entry c.arg
 
 pub loop-place-preserved : goal.loop-place-preserved
 loop-place-preserved c = record {
-    family = c.in_ok-add_row.ensures.family (entry c.args.over.now) c.loop-place.place-index c.loop-place.invariant.family refl;
-    room = c.in_ok-add_row.ensures.room ∙ c.loop-place.invariant.room;
-  }
+  family = c.in_ok-add_row.ensures.family (entry c.args.over.now) c.loop-place.place-index c.loop-place.invariant.family refl;
+  room = c.in_ok-add_row.ensures.room ∙ c.loop-place.invariant.room;
+}

@@ -1,4 +1,4 @@
-use Rattle.std.proofs.Common.{refl, arith, rules}
+use Rattle.std.proofs.Common.{refl, rules}
 use Rattle.tree_order.proofs.Families.{family_none}
 use Rattle.tree_order.proofs.family.no_rows.Goals as goal
 
