@@ -9,8 +9,8 @@ ghost use Rattle.typed_object.specs.Ground.{kernel_memory};
 ghost use Rattle.word_table.specs.Kept.{count_left};
 ghost use Rattle.file_plugins.specs.Rows.{file_cells, lines_left};
 
-use hex_text::append_address;
 use cell_text::append_number;
+use hex_text::append_address;
 use kernel_records::WalkFault;
 use layer_base::{Layer, Steps};
 use path_walk::{Paths, append_file_path};
@@ -45,7 +45,11 @@ pub(crate) fn make_cells<Y: Layer, L: Ledger>(
 }
 
 /// Appends the row of a descriptor whose file has these cells.
-pub(crate) fn append_row(text: &mut Vec<u8>, descriptor: u64, cells: &[u8]) -> Result<(), AllocError>
+pub(crate) fn append_row(
+    text: &mut Vec<u8>,
+    descriptor: u64,
+    cells: &[u8],
+) -> Result<(), AllocError>
     ensures ok { OnOk result (text.new.items ≡ text.old.items ++ (decimal descriptor ++ cells.now)) }
     ensures err { OnErr result (StartsWith text.new.items text.old.items) }
 {
