@@ -18,7 +18,7 @@ use Rattle.map_plugins.specs.Row.{area_row}
 
 module _ (physical : AddressSpace) (table : IsfTable) (kernel : Kernel) (mm : ℕ) where
   -- the text of what a walk gives
-  text-by : Result WalkState Stop → List ℕ
+  abbrev text-by : Result WalkState Stop → List ℕ
   text-by walk = head ++ rows_text physical table kernel (areas_of (kernel_memory physical kernel) table walk) (stop_for (kernel_memory physical kernel) walk)
 
   -- it is that of the areas

@@ -1,4 +1,4 @@
-use Rattle.std.proofs.Common.{rules, ◌≡◌, ℕ, List, ◌++◌, Result, Ok, subst, ◌∙◌}
+use Rattle.std.proofs.Common.{rules, ◌≡◌, ℕ, List, ◌++◌, subst, ◌∙◌}
 use Rattle.layer_base.specs.AddressSpace.{AddressSpace}
 use Rattle.kernel_records.specs.declared.fault.PluginFault.TheVariants.{Device, Out}
 use Rattle.space_memory.specs.InSpace.{in_space}
@@ -10,6 +10,7 @@ use Rattle.walk_text.specs.WalkText.{walk_text}
 use Rattle.map_plugins.specs.Maps.{head}
 use Rattle.map_plugins.specs.Row.{area_row}
 use Rattle.map_plugins.proofs.Chain.{walk-areas, no-areas}
+use Rattle.map_plugins.proofs.Whole.{WritesOver-whole}
 use Rattle.map_plugins.proofs.areas.write_areas.Goals as goal
 
 pub returns-in-Ok : goal.returns-in-Ok
@@ -34,11 +35,9 @@ returns-in_err-write_whole-in-Err g c =
     }
 
 pub returns-in_ok-write_whole-in-Err : goal.returns-in_ok-write_whole-in-Err
-returns-in_ok-write_whole-in-Err g c =
-    let known : WritesOver g.O.Sink.written g.O.Sink.faults c.args.out.now c.write_whole.new.out c.args.memory.now c.args.memory.now Device Out (Ok tt) (λ memory. head ++ end_line c.in-Err.stop) = search rules in
-    record {
-      writes =
-          subst (λ (text_of : AddressSpace → List ℕ). WritesOver g.O.Sink.written g.O.Sink.faults c.args.out.now c.write_whole.new.out c.args.memory.now c.args.memory.now Device Out (Ok tt) text_of)
-          (λ i memory. no-areas memory c.args.ground.table.now c.args.ground.kernel c.args.mm c.in-Err.stop c.in-Err.ensures.walk i)
-          known;
-    }
+returns-in_ok-write_whole-in-Err g c = record {
+  writes = WritesOver-whole g.O.Sink.written g.O.Sink.faults c.args.out.now c.write_whole.new.out c.args.memory.now Device Out (tt {0}) c.deref.result.now _
+      c.in_ok-write_whole-in-Err.ensures.bytes
+      (λ memory. c.deref.ensures.value ∙ c.in_ok-no_areas-in-Err.ensures ∙ no-areas memory c.args.ground.table.now c.args.ground.kernel c.args.mm c.in-Err.stop c.in-Err.ensures.walk)
+      c.write_whole.ensures.cause.kept;
+}
