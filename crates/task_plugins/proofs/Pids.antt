@@ -1,5 +1,5 @@
 -- The first task with a PID among those that a walk gives.
-use Rattle.std.proofs.Common.{◌≡◌, ℕ, find, Option, Result, refl, sym, ap, ◌∙◌}
+use Rattle.std.proofs.Common.{◌≡◌, ℕ, find, Result, refl, sym, ap, ◌∙◌}
 use Rattle.layer_base.specs.AddressSpace.{AddressSpace}
 use Rattle.isf_reader.specs.Table.{IsfTable}
 use Rattle.kernel_records.specs.declared.kernel.Kernel.{Kernel}

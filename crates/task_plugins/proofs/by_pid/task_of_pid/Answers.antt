@@ -5,7 +5,7 @@ use Rattle.layer_base.specs.View.{physical}
 use Rattle.layer_base.proofs.Told.{IfSome-always}
 use Rattle.list_walk.specs.Objects.{objects}
 use Rattle.space_memory.specs.InSpace.{in_space}
-use Rattle.task_plugins.specs.Pid.{has_pid, task_of_pid}
+use Rattle.task_plugins.specs.Pid.{has_pid}
 use Rattle.task_plugins.proofs.Pids.{first-of-walk}
 use Rattle.task_plugins.proofs.by_pid.task_of_pid.Goals as goal
 

@@ -1,9 +1,8 @@
-use Rattle.std.proofs.Common.{◌≡◌, ℕ, List, ◌++◌, Err, subst, codes, ap, ◌∙◌}
+use Rattle.std.proofs.Common.{ℕ, List, ◌++◌, Err, subst, codes, ap, ◌∙◌}
 use Rattle.layer_base.specs.AddressSpace.{AddressSpace}
 use Rattle.kernel_records.specs.declared.fault.PluginFault.TheVariants.{Device, Out}
 use Rattle.space_memory.specs.InSpace.{in_space}
 use Rattle.space_memory.specs.Writer.{WritesOver}
-use Rattle.walk_text.specs.Added.{end_line}
 use Rattle.walk_text.specs.WalkText.{walk_text}
 use Rattle.task_plugins.specs.Pslist.{task_row}
 use Rattle.task_plugins.specs.Task.{task_at}

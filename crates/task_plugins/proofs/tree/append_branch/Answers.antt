@@ -1,4 +1,4 @@
-use Rattle.std.proofs.Common.{◌≡◌, ◌++◌, length, slice_get, Option, None, Some, OnOk, refl, sym, subst}
+use Rattle.std.proofs.Common.{◌≡◌, ◌++◌, length, Option, OnOk, refl, sym, subst}
 use Rattle.std.proofs.lemmas.List.{append-nil}
 use Rattle.std.proofs.lemmas.Option.{slice_get_read, slice_get_past}
 use Rattle.kernel_records.specs.declared.task.Task.{Task}
