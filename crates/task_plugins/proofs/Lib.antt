@@ -1,1 +1,5 @@
 pub mod First
+pub mod Joined
+pub mod Pids
+pub mod Read
+pub mod RowTexts

@@ -23,7 +23,7 @@ task_row task = address_cell task.at ++ codes "\t" ++ number_cells task ++ codes
 
 -- a line of the names of the columns, a row for each task, and why their ring ended
 abbrev pub list_text : List Task → Stop → List ℕ
-list_text rows stop = codes "OFFSET\tPID\tTID\tPPID\tCOMM\n" ++ flat_map task_row rows ++ end_line stop
+list_text rows stop = codes "OFFSET\tPID\tTID\tPPID\tCOMM\n" ++ (flat_map task_row rows ++ end_line stop)
 
 -- the line of the first missing name, else the tasks of a kernel in a physical memory
 unfoldable pub pslist_text : AddressSpace → IsfTable → Kernel → List ℕ

@@ -28,9 +28,13 @@ row_behind depth (Some task) = decimal depth ++ codes "\t" ++ task_row task
 abbrev pub branch_row : List Task → Branch → List ℕ
 branch_row rows branch = row_behind branch.depth (slice_get rows branch.row)
 
--- a line of the names of the columns, the tasks in the order of their tree, and why their ring ended
+-- a line of the names of the columns, rows of places in the tree, and why the ring of the tasks ended
+abbrev pub branches_text : List Task → List Branch → Stop → List ℕ
+branches_text rows branches stop = codes "DEPTH\tOFFSET\tPID\tTID\tPPID\tCOMM\n" ++ (flat_map (branch_row rows) branches ++ end_line stop)
+
+-- the rows in the order of the tree of the tasks
 abbrev pub tree_text : List Task → Stop → List ℕ
-tree_text rows stop = codes "DEPTH\tOFFSET\tPID\tTID\tPPID\tCOMM\n" ++ flat_map (branch_row rows) (tree (map key_of rows)) ++ end_line stop
+tree_text rows stop = branches_text rows (tree (map key_of rows)) stop
 
 -- the line of the first missing name, else the tree of the tasks of a kernel in a physical memory
 unfoldable pub pstree_text : AddressSpace → IsfTable → Kernel → List ℕ

@@ -25,7 +25,7 @@ fn write_task_tree<Y: Layer, O: Sink, L: Ledger>(
         (λ memory. tree_text (lists.tasks memory ground.entry.table.now ground.entry.kernel) (lists.task_stop memory ground.entry.table.now ground.entry.kernel)) }
 {
     let found = all_tasks(alloc, ground, memory, steps)?;
-    write_tree(alloc, found.rows.items(), found.stop, memory, out, steps)
+    write_tree(alloc, &found, memory, out, steps)
 }
 
 /// Writes the tree of the tasks of a kernel: a line of the columns' names, then a row for each task of the ring, which

@@ -1,0 +1,12 @@
+mod Ancestors
+mod Climbing
+mod Ending
+mod Families
+mod Keys
+mod Lists
+mod Ordered
+mod Rings
+mod Sorting
+mod Trees
+mod Walk
+mod Wide
