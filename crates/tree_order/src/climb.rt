@@ -82,14 +82,14 @@ pub(crate) fn climbs(
     requires { 0 < rows }
     ensures { IfOk result (λ climbs. (row : ℕ) → climb_at climbs.items row ≡ climb (entry up.now) rows row) }
 {
-    let once = once(alloc, up)?;
     if rows == 1 {
-        return Ok(once);
+        return once(alloc, up);
     }
     let half = climbs(alloc, up, rows / 2)?;
     let twice = joined(alloc, &half, &half)?;
     if rows % 2 == 0 {
         return Ok(twice);
     }
+    let once = once(alloc, up)?;
     joined(alloc, &once, &twice)
 }
