@@ -17,9 +17,15 @@ pub record StandsWithin (last : ℕ) (position : Position) : Type 0 where
   pub address : position.done ≡ false → position.at ≤ last
   pub number : position.number ≤ 8
 
--- the needles are within their limits, and none is longer than is said
+-- it goes on to a higher address, or at the same one to a number that is no lower, or to its end
+pub record StandsFurther (old new : Position) : Type 0 where
+  pub address : old.at ≤ new.at
+  pub number : new.done ≡ false → new.at ≡ old.at → old.number ≤ new.number
+
+-- the needles are within their limits, none is longer than is said, and as much is read at a time as the longest may have
 pub record IsWanted (wanted : Wanted) : Type 0 where
   pub needles : AreNeedles wanted.needles
   pub some : 1 ≤ wanted.longest
   pub few : wanted.longest ≤ 4096
   pub each : All (λ needle. length needle ≤ wanted.longest) wanted.needles
+  pub chunk : 4096 ≤ wanted.chunk

@@ -1,8 +1,10 @@
 -- A scan on its way.
-use Rattle.std.specs.Prelude.{◌≡◌, ◌≤◌, List, ◌∷◌, length, Option, None, Some}
+use Rattle.std.specs.Prelude.{◌≡◌, ◌+◌, ◌≤◌, List, ◌∷◌, length, vec_len, Option, None, Some}
 use Rattle.layer_base.specs.AddressSpace.{AddressSpace}
 use Rattle.space_memory.specs.InSpace.{in_space}
+use Rattle.needle_search.specs.Progress.{AreReached}
 use Rattle.needle_search.specs.declared.hit.Hit.{Hit}
+use Rattle.needle_search.specs.declared.progress.Progress.{Progress}
 use Rattle.chunk_scanner.specs.Hits.{up_to, hits_from}
 use Rattle.chunk_scanner.specs.Position.{addresses_left, IsWanted, StandsWithin}
 use Rattle.chunk_scanner.specs.Window.{AreBytesFrom, kept_bytes, IsWindow}
@@ -10,12 +12,15 @@ use Rattle.chunk_scanner.specs.declared.position.Position.{Position}
 use Rattle.chunk_scanner.specs.declared.wanted.Wanted.{Wanted}
 use Rattle.chunk_scanner.specs.declared.window.Window.{Window}
 
--- it stands at or before the last address, and keeps no bytes of those behind it
-pub record IsScan (wanted : Wanted) (position : Position) (window : Window) : Type 0 where
+-- It stands at or before the last address, and keeps no bytes of those behind it. The buffer has room for a chunk behind
+-- what is too little to be searched. So far as is said the bytes that are kept were searched.
+pub record IsScan (wanted : Wanted) (position : Position) (window : Window) (progress : Progress) : Type 0 where
   pub sound : IsWanted wanted
   pub stands : StandsWithin wanted.last position
   pub buffer : IsWindow window
+  pub room : wanted.longest + wanted.chunk ≤ vec_len window.buf
   pub inside : length (kept_bytes window) ≤ addresses_left wanted.last position
+  pub reached : AreReached wanted.needles (kept_bytes window) position.number progress
 
 -- the part of a physical memory that is searched
 abbrev pub searched : AddressSpace → Wanted → AddressSpace

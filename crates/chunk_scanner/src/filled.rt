@@ -1,5 +1,5 @@
 //! Reading as much as a buffer takes.
-ghost use Rattle.std.specs.Prelude.{◌+◌, ◌^◌, ◌<◌, ◌≤◌, length, IsErr, IfOk, IfSome};
+ghost use Rattle.std.specs.Prelude.{◌≡◌, ◌+◌, ◌^◌, ◌<◌, ◌≤◌, take, drop, length, IsErr, IfOk, IfSome};
 ghost use Rattle.layer_base.specs.Counts.{HasCause};
 ghost use Rattle.layer_base.specs.View.{physical};
 ghost use Rattle.space_memory.specs.InSpace.{in_space};
@@ -47,8 +47,8 @@ fn fill<Y: Layer, L: Ledger>(
     Ok(Filled { count, hole: None })
 }
 
-/// The same with the bytes of an address and at most `more` behind it.
-pub(crate) fn fill_within<Y: Layer, L: Ledger>(
+// The same with the bytes of an address and at most `more` behind it.
+fn fill_within<Y: Layer, L: Ledger>(
     memory: &mut Memory<Y>,
     space: Space,
     at: u64,
@@ -66,4 +66,26 @@ pub(crate) fn fill_within<Y: Layer, L: Ledger>(
 {
     let room = room_within(more, buf.len());
     fill(memory, space, at, &mut buf[..room], steps)
+}
+
+/// Reads from an address on, at most `more` behind it, and puts that behind the first bytes of a buffer, which stay.
+pub(crate) fn fill_behind<Y: Layer, L: Ledger>(
+    memory: &mut Memory<Y>,
+    space: Space,
+    at: u64,
+    more: u64,
+    buf: &mut [u8],
+    kept: usize,
+    steps: &mut Steps<L>,
+) -> Result<Filled, DeviceFailed>
+    requires addresses { at + more < 2 ^ 64 }
+    requires room { kept + 4096 ≤ length buf.old }
+    ensures enough { IfOk result (IsReadWithin at more) }
+    ensures count { IfOk result (λ filled. kept + filled.count ≤ length buf.old) }
+    ensures front { take kept buf.new ≡ take kept buf.old }
+    ensures filled { IfSome memory.old.view (λ view. IfOk result (IsFilledFrom (in_space (physical view) space) at (drop kept buf.new))) }
+    ensures memory { IsSameMemory memory.old memory.new }
+    ensures cause { HasCause memory.old.faults memory.new.faults (IsErr result) }
+{
+    fill_within(memory, space, at, more, &mut buf[kept..], steps)
 }

@@ -13,7 +13,7 @@ use crate::scan::next;
 use crate::wanted::Wanted;
 use crate::window::Window;
 use layer_base::{DeviceFailed, Layer, Space, Steps};
-use needle_search::{Hit, Needles};
+use needle_search::{Hit, Needles, Progress};
 use space_memory::Memory;
 use std::alloc::{AllocError, Global};
 use std::marker::Model;
@@ -25,6 +25,7 @@ pub struct Scanner {
     wanted: Wanted,
     position: Position,
     window: Window,
+    progress: Progress,
 }
 
 impl Model for Scanner {
@@ -37,7 +38,7 @@ impl Model for Scanner {
 
     ghost view = { λ s. record { space = s.wanted.space; last = s.wanted.last; needles = s.wanted.needles; at = s.position.at; number = s.position.number; left = addresses_left s.wanted.last s.position; kept = kept_bytes s.window } };
 
-    ghost invariant = { λ s. IsScan s.wanted s.position s.window };
+    ghost invariant = { λ s. IsScan s.wanted s.position s.window s.progress };
 }
 
 // A buffer of so many bytes.
@@ -49,7 +50,7 @@ fn zeros(alloc: Global, count: usize) -> Result<Vec<u8>, AllocError>
 
 impl Scanner {
     /// A scanner of the addresses of a space from `first` to `last`, themselves included, which reads at most `chunk`
-    /// bytes before it searches them. It takes all its memory here.
+    /// bytes at a time and searches them before it reads on. It takes all its memory here.
     pub fn new(
         alloc: Global,
         space: Space,
@@ -67,14 +68,15 @@ impl Scanner {
         ensures last { IfOk result (λ scanner. scanner.last ≡ last) }
         ensures needles { IfOk result (λ scanner. scanner.needles ≡ needles) }
     {
-        let buf = zeros(alloc, chunk)?;
         let longest = needles.longest();
+        let buf = zeros(alloc, longest + chunk)?;
         Ok(Scanner {
             wanted: Wanted {
                 space,
                 last,
                 needles,
                 longest,
+                chunk,
             },
             position: Position {
                 at: first,
@@ -86,6 +88,7 @@ impl Scanner {
                 start: 0,
                 end: 0,
             },
+            progress: Progress::new(),
         })
     }
 
@@ -110,6 +113,7 @@ impl Scanner {
             &self.wanted,
             &mut self.position,
             &mut self.window,
+            &mut self.progress,
             memory,
             steps,
         )

@@ -1,7 +1,8 @@
 //! Searching what was read.
 ghost use Rattle.std.specs.Prelude.{◌≡◌, ◌<◌, ◌≤◌, false, IfSome};
 ghost use Rattle.layer_base.specs.AddressSpace.{AddressSpace};
-ghost use Rattle.chunk_scanner.specs.Position.{pairs_behind, StandsWithin, IsWanted};
+ghost use Rattle.needle_search.specs.Progress.{AreReached};
+ghost use Rattle.chunk_scanner.specs.Position.{pairs_behind, StandsWithin, StandsFurther, IsWanted};
 ghost use Rattle.chunk_scanner.specs.Scan.{searched, Passes};
 ghost use Rattle.chunk_scanner.specs.Search.{IsEnough, IsKnownUntil, Tells};
 ghost use Rattle.chunk_scanner.specs.State.{IsHitWithin};
@@ -9,7 +10,7 @@ ghost use Rattle.chunk_scanner.specs.State.{IsHitWithin};
 use crate::filled::Filled;
 use crate::position::Position;
 use crate::wanted::Wanted;
-use needle_search::{Hit, first_from};
+use needle_search::{Hit, Progress, first_from};
 
 /// The last address of those at which what was read decides which needles begin.
 pub(crate) fn known_until(wanted: &Wanted, at: u64, filled: &Filled) -> u64
@@ -33,6 +34,7 @@ pub(crate) fn known_until(wanted: &Wanted, at: u64, filled: &Filled) -> u64
 pub(crate) fn search(
     wanted: &Wanted,
     position: &mut Position,
+    progress: &mut Progress,
     bytes: &[u8],
     until: u64,
 ) -> Option<Hit>
@@ -41,15 +43,17 @@ pub(crate) fn search(
     requires begun { position.old.done ≡ false }
     requires least { position.old.at ≤ until }
     requires most { until ≤ wanted.now.last }
+    requires reached { AreReached wanted.now.needles bytes.now position.old.number progress.old }
     ensures hits { (memory : AddressSpace) → Tells (searched memory wanted.now) wanted.now.needles position.old.at bytes.now until
         → Passes memory wanted.now position.old position.new result }
     ensures stands { StandsWithin wanted.now.last position.new }
-    ensures order { position.old.at ≤ position.new.at }
+    ensures further { StandsFurther position.old position.new }
+    ensures reached { AreReached wanted.now.needles bytes.now position.old.number progress.new }
     ensures fewer { pairs_behind wanted.now.last position.new < pairs_behind wanted.now.last position.old }
     ensures within { IfSome result (IsHitWithin wanted.now.last wanted.now.needles) }
 {
     let at = position.at;
-    match first_from(&wanted.needles, position.number, bytes) {
+    match first_from(&wanted.needles, position.number, bytes, progress) {
         Some(hit) if hit.at <= until - at => {
             let found = Hit {
                 at: at + hit.at,

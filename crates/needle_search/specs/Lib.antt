@@ -1,2 +1,3 @@
 pub mod FirstHit
 pub mod Needles
+pub mod Progress

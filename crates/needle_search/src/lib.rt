@@ -3,8 +3,10 @@
 
 mod hit;
 mod needles;
+mod progress;
 mod search;
 
 pub use hit::Hit;
 pub use needles::Needles;
+pub use progress::Progress;
 pub use search::{first_from, first_in};

@@ -2,14 +2,14 @@
 ghost use Rattle.std.specs.Prelude.{◌≡◌, ◌<◌, ◌≤◌, [], ◌∷◌, ◌++◌, length, All, OnOk, OnErr};
 ghost use Rattle.needle_search.specs.Needles.{AreNeedles};
 
-use layer_base::Name;
+use memchr::memmem::Finder;
 use std::alloc::{AllocError, Global};
 use std::marker::Model;
 
-/// Up to 8 needles of 1 to 4,096 bytes each. Contracts see them as a list of lists of bytes.
+/// Up to 8 needles of 1 to 4,096 bytes each, each with its search. Contracts see them as a list of lists of bytes.
 #[derive(Debug, Drop)]
 pub struct Needles {
-    items: Vec<Name>,
+    items: Vec<Finder<'static>>,
     alloc: Global,
 }
 
@@ -43,8 +43,8 @@ impl Needles {
         ensures ok { OnOk result (self.new ≡ self.old ++ needle.now ∷ []) }
         ensures err { OnErr result (self.new ≡ self.old) }
     {
-        let copy = Name::from(Vec::from_slice(self.alloc, needle)?);
-        self.items.push(copy)?;
+        let search = Finder::new(needle).into_owned(self.alloc)?;
+        self.items.push(search)?;
         Ok(())
     }
 
@@ -57,13 +57,13 @@ impl Needles {
     {
         let mut longest = 1;
         for needle in &self.items {
-            longest = needle.items().len().max(longest);
+            longest = needle.needle().len().max(longest);
         }
         longest
     }
 
-    // The needles.
-    pub(crate) fn items(&self) -> &[Name]
+    // The searches of the needles.
+    pub(crate) fn items(&self) -> &[Finder<'static>]
         ensures value { result.now ≡ self.now }
         ensures fit { AreNeedles self.now }
     {

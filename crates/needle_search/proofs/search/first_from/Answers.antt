@@ -1,4 +1,4 @@
 use Rattle.needle_search.proofs.search.first_from.Goals as goal
 
-pub returns : goal.returns
-returns c = rw c.items.ensures.value at c.first_among.ensures
+pub returns-clause-first : goal.returns-clause-first
+returns-clause-first c = rw c.items.ensures.value at c.first_among.ensures.first

@@ -8,7 +8,7 @@ pub loop-needle-preserved : goal.loop-needle-preserved
 loop-needle-preserved c =
     let items = c.deref-needle-items.result.now in
     let i = c.loop-needle.needle-index in
-    let here : length c.needle-item.result ≤ c.max-longest.result = omega (arith, ap length c.items.ensures) in
+    let here : length c.needle-item.result ≤ c.max-longest.result = omega (arith, ap length c.needle.ensures) in
     let inside : length (slice_index_or items i c.needle-item.result) ≤ 4096 =
     subst (λ needles. length (slice_index_or needles i c.needle-item.result) ≤ 4096) (sym c.deref-needle-items.ensures.value) (c.self.invariant.each i c.needle-item.result (omega (arith, ap length c.deref-needle-items.ensures.value))).few in
     let few : length c.needle-item.result ≤ 4096 = subst (λ needle. length needle ≤ 4096) (sym c.needle-item.is) inside in
@@ -16,7 +16,7 @@ loop-needle-preserved c =
     All-weaker (λ needle. length needle ≤ c.loop-needle.longest) (λ needle. length needle ≤ c.max-longest.result) (λ needle le. omega arith) (take i items) c.loop-needle.invariant.each in
     record {
       some = omega arith;
-      few = omega (arith, ap length c.items.ensures, c.loop-needle.invariant.few);
+      few = omega (arith, ap length c.needle.ensures, c.loop-needle.invariant.few);
       each = All-more (λ needle. length needle ≤ c.max-longest.result) items i c.needle-item.result c.loop-needle-test.true before (subst (λ needle. length needle ≤ c.max-longest.result) c.needle-item.is here);
     }
 
