@@ -1,7 +1,10 @@
 -- The bytes that were read tell where needles occur.
 use Rattle.std.proofs.Common.{◌≡◌, ◌≢◌, ℕ, zero, suc, ◌+◌, ◌-◌, ◌<◌, ◌≤◌, ◌⊎◌, inl, inr, List, [], ◌∷◌, length, map, take, get_or, slice_index_or, Bool, true, false, Option, None, Some, drop, refl, sym, ap, ◌∙◌, ⊎_elim, arith, length-take, length-drop, get_or-take, get_or-drop}
 use Rattle.std.specs.Prelude.{IfSome, MatchOption}
-use Rattle.std.proofs.lemmas.Bool.{cases_lt}
+use Rattle.std.proofs.lemmas.Bool.{cases_lt, cases_eq}
+use Rattle.std.proofs.lemmas.List.{drop_all, drop-take, drop-drop}
+use Rattle.std.proofs.lemmas.List.Edits.{take-paste}
+use lib.Seq.{paste}
 use Rattle.std.proofs.lemmas.Option.{none-some, same_Some}
 use Rattle.memchr.specs.Find.{OccursAt}
 use Rattle.layer_base.specs.AddressSpace.{AddressSpace, bytes_from}
@@ -9,7 +12,7 @@ use Rattle.chunk_scanner.specs.Filled.{IsReadWithin}
 use Rattle.chunk_scanner.specs.Hits.{occurs, up_to}
 use Rattle.chunk_scanner.specs.Window.{AreBytesFrom}
 use Rattle.chunk_scanner.specs.Position.{IsWanted}
-use Rattle.chunk_scanner.specs.Search.{IsKnownUntil, Tells}
+use Rattle.chunk_scanner.specs.Search.{IsEnough, IsKnownUntil, Tells}
 use Rattle.chunk_scanner.specs.declared.filled.Filled.{Filled}
 use Rattle.chunk_scanner.specs.declared.wanted.Wanted.{Wanted}
 use Rattle.chunk_scanner.proofs.Occurs.{occurs-byte, occurs-all, up_to-within, up_to-behind}
@@ -77,18 +80,58 @@ module _ (memory : AddressSpace) (wanted : Wanted) (at : ℕ) (window : List ℕ
     only = λ place number within inside found. stands place (slice_index_or wanted.needles number []) within (sound.needles.each number [] inside).some (sound.each number [] inside) found;
   }
 
--- what was read into a buffer, and is kept from its first byte on
-pub filled-bytes : (memory : AddressSpace) (at n : ℕ) (buf items : List ℕ) → items ≡ buf → bytes_from memory at n ≡ map Some (take n buf) → AreBytesFrom memory at (take (n - 0) items)
-filled-bytes memory at n buf items same read k below =
-    let all : n - 0 ≡ n = omega arith in
-    let kept : take (n - 0) items ≡ take n buf = ap (λ (m : ℕ). take m items) all ∙ ap (take n) same in
-    byte-from memory at n (take n buf) read k (omega (arith, ap length kept, length-take n buf, below)) ∙ ap (λ (bytes : List ℕ). Some (get_or bytes k 0)) (sym kept)
+-- bytes that are kept in the front of a buffer, and those that were read behind them
+pub joined-bytes : (memory : AddressSpace) (at kept n m : ℕ) (buf old : List ℕ) → take kept buf ≡ old → length old ≡ kept → kept + n ≤ length buf → m ≡ kept + n → AreBytesFrom memory at old → bytes_from memory (at + kept) n ≡ map Some (take n (drop kept buf)) → AreBytesFrom memory at (take m buf)
+joined-bytes memory at kept n m buf old front size room sum before read k below =
+    let within : k < m = omega (arith, length-take m buf) in
+    let here : get_or (take m buf) k 0 ≡ get_or buf k 0 = get_or-take m buf k 0 within in
+    ⊎_elim
+    (λ early.
+    let byte : get_or buf k 0 ≡ get_or old k 0 = sym (get_or-take kept buf k 0 early) ∙ ap (λ (bytes : List ℕ). get_or bytes k 0) front in
+    before k (omega arith) ∙ ap (λ (b : ℕ). Some b) (sym (here ∙ byte)))
+    (λ late.
+    let there : at + kept + (k - kept) ≡ at + k = omega arith in
+    let index : kept + (k - kept) ≡ k = omega arith in
+    let inside : k - kept < n = omega arith in
+    let byte : get_or (take n (drop kept buf)) (k - kept) 0 ≡ get_or buf k 0 = get_or-take n (drop kept buf) (k - kept) 0 inside ∙ get_or-drop kept buf (k - kept) 0 ∙ ap (λ i. get_or buf i 0) index in
+    rw there at (byte-from memory (at + kept) n (take n (drop kept buf)) read (k - kept) inside) ∙ ap (λ (b : ℕ). Some b) (byte ∙ sym here))
+    (cases_lt k kept)
 
--- the front of bytes of the memory
-pub front-bytes : (memory : AddressSpace) (at n : ℕ) (bytes : List ℕ) → AreBytesFrom memory at bytes → AreBytesFrom memory at (take n bytes)
-front-bytes memory at n bytes all k below =
-    let early : k < n = omega (arith, length-take n bytes) in
-    all k (omega (arith, length-take n bytes)) ∙ ap (λ (byte : ℕ). Some byte) (sym (get_or-take n bytes k 0 early))
+-- a window whose kept bytes were moved to the front of the buffer
+pub moved-front : (items : List ℕ) (start end : ℕ) → start ≤ end → end ≤ length items → take (end - start) (paste items 0 (drop start items) (end - start)) ≡ take (end - start) (drop start items)
+moved-front items start end order within = take-paste items 0 (drop start items) (end - start) (omega arith) (omega (arith, length-drop start items))
+
+-- what was read behind the bytes that were kept, as what is kept now
+pub read-behind : (at kept more behind : ℕ) (filled : Filled) → kept ≤ more → behind ≤ more - kept → (behind ≢ more - kept → 4095 ≤ behind) → IsReadWithin (at + kept) behind filled → IsReadWithin at more (record { count = kept + filled.count; hole = filled.hole })
+read-behind at kept more behind filled fits few enough read = by filled.hole read
+  where
+    by : (hole : Option ℕ) → MatchOption hole ((1 ≤ filled.count) × (filled.count ≤ behind + 1) × (filled.count ≢ behind + 1 → 4096 ≤ filled.count)) (λ last. (at + kept + filled.count ≤ last) × (filled.count ≤ behind))
+        → MatchOption hole ((1 ≤ kept + filled.count) × (kept + filled.count ≤ more + 1) × (kept + filled.count ≢ more + 1 → 4096 ≤ kept + filled.count)) (λ last. (at + (kept + filled.count) ≤ last) × (kept + filled.count ≤ more))
+    by None some = (
+      omega (arith, some.0),
+      omega (arith, some.1),
+      λ short. ⊎_elim (λ all. let less : behind ≢ more - kept = λ same. short (omega arith) in let room = enough less in omega arith) (λ part. let room = some.2 part in omega arith) (cases_eq filled.count (behind + 1)),
+    )
+    by (Some last) some = (omega (arith, some.0), omega (arith, some.1))
+
+-- a window that passed so many of its bytes, or all of them
+pub passed-kept : (items : List ℕ) (start end count passed : ℕ) → start ≤ end → passed ≤ count → passed ≤ end - start → (passed ≢ count → passed ≡ end - start) → take (end - (start + passed)) (drop (start + passed) items) ≡ drop count (take (end - start) (drop start items))
+passed-kept items start end count passed order few fits whole =
+    ⊎_elim
+    (λ same.
+    let sum : count + (end - (start + passed)) ≡ end - start = omega arith in
+    let there : start + count ≡ start + passed = omega arith in
+    sym (ap (λ n. drop count (take n (drop start items))) (sym sum)
+    ∙ drop-take count (end - (start + passed)) (drop start items)
+    ∙ ap (take (end - (start + passed))) (drop-drop count start items ∙ ap (λ n. drop n items) there)))
+    (λ other.
+    let all : passed ≡ end - start = whole other in
+    let none : end - (start + passed) ≡ 0 = omega arith in
+    ap (λ n. take n (drop (start + passed) items)) none ∙ take-none (drop (start + passed) items) ∙ sym (drop_all count (take (end - start) (drop start items)) (omega (arith, length-take (end - start) (drop start items)))))
+    (cases_eq passed count)
+  where
+    take-none : (l : List ℕ) → take 0 l ≡ []
+    take-none l = refl
 
 -- and what is left behind so many
 pub passed-bytes : (memory : AddressSpace) (at n : ℕ) (bytes : List ℕ) → AreBytesFrom memory at bytes → AreBytesFrom memory (at + n) (drop n bytes)
@@ -104,10 +147,19 @@ followed-bytes memory from at false old new order cleared passed all k below =
     let rest : AreBytesFrom memory at (drop (at - from) old) = rw there at (passed-bytes memory from (at - from) old all) in
     rw (passed refl) (rest k (omega (arith, ap length (passed refl))))
 
--- no more was read than was to be
-pub read-inside : (at more : ℕ) (filled : Filled) → IsReadWithin at more filled → filled.count ≤ more + 1
-read-inside at more filled read = by filled.hole read
+-- it reaches no address behind the last
+pub enough-inside : (wanted : Wanted) (at : ℕ) (filled : Filled) → IsEnough wanted at filled → at + filled.count ≤ wanted.last + 1
+enough-inside wanted at filled enough = by filled.hole enough
   where
-    by : (hole : Option ℕ) → MatchOption hole ((1 ≤ filled.count) × (filled.count ≤ more + 1) × (filled.count ≢ more + 1 → 4096 ≤ filled.count)) (λ last. (at + filled.count ≤ last) × (filled.count ≤ more)) → filled.count ≤ more + 1
+    by : (hole : Option ℕ) → MatchOption hole ((1 ≤ filled.count) × (at + filled.count ≤ wanted.last + 1) × (at + filled.count ≢ wanted.last + 1 → wanted.longest ≤ filled.count)) (λ last. (at + filled.count ≤ last) × (at + filled.count ≤ wanted.last)) → at + filled.count ≤ wanted.last + 1
     by None some = some.1
     by (Some last) some = omega (arith, some.1)
+
+-- what is read where too little was kept is enough
+pub read-enough : (wanted : Wanted) (at : ℕ) (filled : Filled) → wanted.longest ≤ 4096 → at ≤ wanted.last → IsReadWithin at (wanted.last - at) filled → IsEnough wanted at filled
+read-enough wanted at filled few low read = by filled.hole read
+  where
+    by : (hole : Option ℕ) → MatchOption hole ((1 ≤ filled.count) × (filled.count ≤ wanted.last - at + 1) × (filled.count ≢ wanted.last - at + 1 → 4096 ≤ filled.count)) (λ last. (at + filled.count ≤ last) × (filled.count ≤ wanted.last - at))
+        → MatchOption hole ((1 ≤ filled.count) × (at + filled.count ≤ wanted.last + 1) × (at + filled.count ≢ wanted.last + 1 → wanted.longest ≤ filled.count)) (λ last. (at + filled.count ≤ last) × (at + filled.count ≤ wanted.last))
+    by None some = (some.0, omega (arith, some.1), λ short. let part : filled.count ≢ wanted.last - at + 1 = λ all. short (omega arith) in let room = some.2 part in omega arith)
+    by (Some last) some = (some.0, omega (arith, some.1))

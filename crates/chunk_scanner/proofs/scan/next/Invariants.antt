@@ -9,11 +9,10 @@ use Rattle.chunk_scanner.proofs.scan.next.Given as goal
 -- the hits that are left are those that were
 abbrev pub invariant-loop-position : goal.invariant-loop-position
 invariant-loop-position g l = record {
-  scan : IsScan l.wanted l.position l.window;
+  scan : IsScan l.wanted l.position l.window l.progress;
   hits : IfSome l.fn.memory.view (λ view. hits_behind (physical view) l.wanted l.fn.position ≡ hits_behind (physical view) l.wanted l.position);
   kept : IfSome l.fn.memory.view (λ view. Keeps (physical view) l.wanted l.position l.window);
   fewer : pairs_behind l.wanted.last l.position ≤ pairs_behind l.wanted.last l.fn.position;
-  room : 4096 ≤ l.room;
   memory : IsSameMemory l.fn.memory l.memory;
 }
 

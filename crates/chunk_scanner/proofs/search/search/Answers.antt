@@ -14,7 +14,7 @@ returns-in-Some-clause-hits c memory tells =
     let part = searched memory wanted in
     let position = c.args.position.now in
     let hit = c.in-Some.hit in
-    let first = c.in-Some.ensures in
+    let first = c.in-Some.ensures.first in
     let left : addresses_left wanted.last position ≡ wanted.last + 1 - position.at = cond-false position.done 0 (wanted.last + 1 - position.at) c.requires.begun in
     ap (hits_from part wanted.needles position.at position.number) left
     ∙ hit-first part wanted.needles position.at c.args.bytes.now c.args.until wanted.last position.number tells c.requires.wanted.needles.few c.requires.stands.number c.requires.least c.requires.most hit.at hit.needle (omega arith) first.number first.above first.occurs first.none_before
@@ -27,7 +27,7 @@ returns-in_default-clause-hits c memory tells =
     let left : addresses_left wanted.last position ≡ wanted.last + 1 - position.at = cond-false position.done 0 (wanted.last + 1 - position.at) c.requires.begun in
     let few : length wanted.needles ≤ 8 = c.requires.wanted.needles.few in
     let none : (place k : ℕ) → position.at + place ≤ c.args.until → k < length wanted.needles → position.number ≤ rank place k → ¬ NeedleOccurs wanted.needles c.args.bytes.now k place =
-    elim c.in_default.branch [ in_default-via-in-Some+else-hit-until w ↦ (λ place k within inside ranked. w.in-Some.ensures.none_before place k inside ranked (omega arith)) | in_default-via-in_default w ↦ (λ place k within inside ranked. w.in_default.ensures place k inside ranked) ] in
+    elim c.in_default.branch [ in_default-via-in-Some+else-hit-until w ↦ (λ place k within inside ranked. w.in-Some.ensures.first.none_before place k inside ranked (omega arith)) | in_default-via-in_default w ↦ (λ place k within inside ranked. w.in_default.ensures.first place k inside ranked) ] in
     ap (hits_from part wanted.needles position.at position.number) left
     ∙ none-until part wanted.needles position.at c.args.bytes.now c.args.until wanted.last position.number tells c.requires.wanted.needles.few c.requires.stands.number c.requires.least c.requires.most none
     ∙ hits_from-behind part wanted.needles c.args.until wanted.last c.behind.result.number c.behind.result.at (addresses_left wanted.last c.behind.result) c.requires.most c.behind.ensures.number c.behind.ensures.left c.behind.ensures.address
