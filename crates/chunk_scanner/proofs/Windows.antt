@@ -1,19 +1,18 @@
 -- The bytes that were read tell where needles occur.
-use Rattle.std.proofs.Common.{◌≡◌, ◌≢◌, ℕ, zero, suc, ◌+◌, ◌-◌, ◌<◌, ◌≤◌, ◌⊎◌, inl, inr, List, [], ◌∷◌, length, map, take, get_or, slice_index_or, Bool, true, false, Option, None, Some, drop, refl, sym, ap, ◌∙◌, ⊎_elim, arith, length-take, length-drop, get_or-take, get_or-drop}
+use Rattle.std.proofs.Common.{◌≡◌, ◌≢◌, ℕ, zero, suc, ◌+◌, ◌-◌, ◌<◌, ◌≤◌, ◌⊎◌, inl, inr, List, [], ◌∷◌, length, map, take, get_or, slice_index_or, Bool, true, false, if◌then◌else◌, Option, None, Some, drop, refl, sym, ap, ◌∙◌, ⊎_elim, arith, length-take, length-drop, get_or-take, get_or-drop}
 use Rattle.std.specs.Prelude.{IfSome, MatchOption}
 use Rattle.std.proofs.lemmas.Bool.{cases_lt, cases_eq}
 use Rattle.std.proofs.lemmas.List.{drop_all, drop-take, drop-drop}
-use Rattle.std.proofs.lemmas.List.Edits.{take-paste}
-use lib.Seq.{paste}
 use Rattle.std.proofs.lemmas.Option.{none-some, same_Some}
 use Rattle.memchr.specs.Find.{OccursAt}
 use Rattle.layer_base.specs.AddressSpace.{AddressSpace, bytes_from}
 use Rattle.chunk_scanner.specs.Filled.{IsReadWithin}
 use Rattle.chunk_scanner.specs.Hits.{occurs, up_to}
 use Rattle.chunk_scanner.specs.Window.{AreBytesFrom}
-use Rattle.chunk_scanner.specs.Position.{IsWanted}
+use Rattle.chunk_scanner.specs.Position.{addresses_left, IsWanted}
 use Rattle.chunk_scanner.specs.Search.{IsEnough, IsKnownUntil, Tells}
 use Rattle.chunk_scanner.specs.declared.filled.Filled.{Filled}
+use Rattle.chunk_scanner.specs.declared.position.Position.{Position}
 use Rattle.chunk_scanner.specs.declared.wanted.Wanted.{Wanted}
 use Rattle.chunk_scanner.proofs.Occurs.{occurs-byte, occurs-all, up_to-within, up_to-behind}
 
@@ -97,10 +96,6 @@ joined-bytes memory at kept n m buf old front size room sum before read k below 
     rw there at (byte-from memory (at + kept) n (take n (drop kept buf)) read (k - kept) inside) ∙ ap (λ (b : ℕ). Some b) (byte ∙ sym here))
     (cases_lt k kept)
 
--- a window whose kept bytes were moved to the front of the buffer
-pub moved-front : (items : List ℕ) (start end : ℕ) → start ≤ end → end ≤ length items → take (end - start) (paste items 0 (drop start items) (end - start)) ≡ take (end - start) (drop start items)
-moved-front items start end order within = take-paste items 0 (drop start items) (end - start) (omega arith) (omega (arith, length-drop start items))
-
 -- what was read behind the bytes that were kept, as what is kept now
 pub read-behind : (at kept more behind : ℕ) (filled : Filled) → kept ≤ more → behind ≤ more - kept → (behind ≢ more - kept → 4095 ≤ behind) → IsReadWithin (at + kept) behind filled → IsReadWithin at more (record { count = kept + filled.count; hole = filled.hole })
 read-behind at kept more behind filled fits few enough read = by filled.hole read
@@ -146,6 +141,14 @@ followed-bytes memory from at false old new order cleared passed all k below =
     let there : from + (at - from) ≡ at = omega arith in
     let rest : AreBytesFrom memory at (drop (at - from) old) = rw there at (passed-bytes memory from (at - from) old all) in
     rw (passed refl) (rest k (omega (arith, ap length (passed refl))))
+
+-- no byte behind the last address is kept then either
+pub followed-length : (last from : ℕ) (old new : List ℕ) (position : Position) → from + length old ≤ last + 1 → from ≤ position.at → (position.done ≡ true → new ≡ []) → (position.done ≡ false → new ≡ drop (position.at - from) old) → length new ≤ addresses_left last position
+followed-length last from old new position inside order cleared passed = by position.done cleared passed
+  where
+    by : (done : Bool) → (done ≡ true → new ≡ []) → (done ≡ false → new ≡ drop (position.at - from) old) → length new ≤ (if done then 0 else last + 1 - position.at)
+    by true none rest = omega (arith, ap length (none refl))
+    by false none rest = omega (arith, ap length (rest refl), length-drop (position.at - from) old)
 
 -- it reaches no address behind the last
 pub enough-inside : (wanted : Wanted) (at : ℕ) (filled : Filled) → IsEnough wanted at filled → at + filled.count ≤ wanted.last + 1
