@@ -1,5 +1,5 @@
 -- The bytes that were read tell where needles occur.
-use Rattle.std.proofs.Common.{◌≡◌, ◌≢◌, ℕ, zero, suc, ◌+◌, ◌-◌, ◌<◌, ◌≤◌, ◌⊎◌, inl, inr, List, [], ◌∷◌, length, map, take, get_or, slice_index_or, Bool, true, false, if◌then◌else◌, Option, None, Some, drop, refl, sym, ap, ◌∙◌, ⊎_elim, arith, length-take, length-drop, get_or-take, get_or-drop}
+use Rattle.std.proofs.Common.{◌≡◌, ◌≢◌, ℕ, zero, suc, ◌+◌, ◌-◌, ◌<◌, ◌≤◌, ◌⊎◌, inl, inr, List, [], ◌∷◌, length, map, take, get_or, slice_index_or, Bool, true, false, if◌then◌else◌, Option, None, Some, drop, refl, sym, subst, ap, ◌∙◌, ⊎_elim, arith, length-take, length-drop, get_or-take, get_or-drop}
 use Rattle.std.specs.Prelude.{IfSome, MatchOption}
 use Rattle.std.proofs.lemmas.Bool.{cases_lt, cases_eq}
 use Rattle.std.proofs.lemmas.List.{drop_all, drop-take, drop-drop}
@@ -95,6 +95,13 @@ joined-bytes memory at kept n m buf old front size room sum before read k below 
     let byte : get_or (take n (drop kept buf)) (k - kept) 0 ≡ get_or buf k 0 = get_or-take n (drop kept buf) (k - kept) 0 inside ∙ get_or-drop kept buf (k - kept) 0 ∙ ap (λ i. get_or buf i 0) index in
     rw there at (byte-from memory (at + kept) n (take n (drop kept buf)) read (k - kept) inside) ∙ ap (λ (b : ℕ). Some b) (byte ∙ sym here))
     (cases_lt k kept)
+
+-- the same as a window of the buffer
+pub joined-window : (memory : AddressSpace) (at kept n start end : ℕ) (items buf old : List ℕ) → items ≡ buf → start ≡ 0 → end ≡ kept + n → take kept buf ≡ old → length old ≡ kept → kept + n ≤ length buf → AreBytesFrom memory at old → bytes_from memory (at + kept) n ≡ map Some (take n (drop kept buf)) → AreBytesFrom memory at (take (end - start) (drop start items))
+joined-window memory at kept n start end items buf old same none sum front size room before read =
+    let whole : end - 0 ≡ end = omega arith in
+    let window : take (end - start) (drop start items) ≡ take end buf = ap (λ s. take (end - s) (drop s items)) none ∙ ap (λ m. take m items) whole ∙ ap (take end) same in
+    subst (AreBytesFrom memory at) (sym window) (joined-bytes memory at kept n end buf old front size room sum before read)
 
 -- what was read behind the bytes that were kept, as what is kept now
 pub read-behind : (at kept more behind : ℕ) (filled : Filled) → kept ≤ more → behind ≤ more - kept → (behind ≢ more - kept → 4095 ≤ behind) → IsReadWithin (at + kept) behind filled → IsReadWithin at more (record { count = kept + filled.count; hole = filled.hole })
