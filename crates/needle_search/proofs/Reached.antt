@@ -1,5 +1,5 @@
 -- The laws of how far a window was searched.
-use Rattle.std.proofs.Common.{◌≡◌, ◌≢◌, ℕ, ◌+◌, ◌-◌, ◌<◌, ◌≤◌, List, [], length, take, drop, slice_index_or, get_or, Bool, true, false, nat_lt, None, Some, replicate, refl, sym, subst, ap, ◌∙◌, ⊎_elim, arith, length-drop, length-take, get_or-take}
+use Rattle.std.proofs.Common.{◌≡◌, ℕ, ◌+◌, ◌-◌, ◌<◌, ◌≤◌, List, [], length, take, drop, slice_index_or, get_or, Bool, true, false, None, Some, replicate, sym, subst, ap, ◌∙◌, ⊎_elim, arith, length-drop, length-take, get_or-take}
 use Rattle.std.proofs.lemmas.Bool.{cases_lt, cases_eq}
 use Rattle.std.proofs.lemmas.Bool.Decides.{nat_tests}
 use Rattle.std.proofs.lemmas.List.{get_or-set_same, get_or-set_other, get_or-replicate, length-set}

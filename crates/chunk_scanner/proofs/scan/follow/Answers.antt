@@ -1,4 +1,4 @@
-use Rattle.std.proofs.Common.{◌≡◌, ◌-◌, refl, sym, subst, arith}
+use Rattle.std.proofs.Common.{sym, subst, arith}
 use Rattle.needle_search.specs.Progress.{AreReached}
 use Rattle.chunk_scanner.specs.Window.{kept_bytes}
 use Rattle.chunk_scanner.proofs.scan.follow.Goals as goal

@@ -1,4 +1,4 @@
-use Rattle.std.proofs.Common.{◌+◌, ◌-◌, ◌≤◌, length, ap, ◌∙◌, arith, length-drop}
+use Rattle.std.proofs.Common.{◌+◌, ◌≤◌, arith}
 use Rattle.std.proofs.lemmas.Option.{IfSome_then}
 use Rattle.layer_base.proofs.Told.{IfSome-both}
 use Rattle.layer_base.specs.View.{physical}

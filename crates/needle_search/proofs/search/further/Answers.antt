@@ -1,4 +1,4 @@
-use Rattle.std.proofs.Common.{◌+◌, ◌≤◌, length, ap, arith}
+use Rattle.std.proofs.Common.{length, ap, arith}
 use Rattle.needle_search.proofs.Reached.{further-found, further-none, found-before}
 use Rattle.needle_search.proofs.search.further.Goals as goal
 

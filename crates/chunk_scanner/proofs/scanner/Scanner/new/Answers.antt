@@ -1,4 +1,4 @@
-use Rattle.std.proofs.Common.{◌≡◌, length, refl, arith}
+use Rattle.std.proofs.Common.{refl, arith}
 use Rattle.chunk_scanner.specs.Hits.{hits}
 use Rattle.chunk_scanner.proofs.scanner.Scanner.new.Goals as goal
 
