@@ -45,7 +45,7 @@ up (suc n) a b same =
     let quotient : (c : ℕ) → c / block_size (suc (suc n)) ≡ c / block_size (suc n) / 512 = λ c. ap (λ size. c / size) (block_size-suc n) ∙ sym (div-div-eq-div-mul c (block_size (suc n)) 512) in
     quotient a ∙ ap (λ q. q / 512) same ∙ sym (quotient b)
 
-block_size-some : (level : ℕ) → 0 < block_size level
+pub block_size-some : (level : ℕ) → 0 < block_size level
 block_size-some level = pow_pos (12 + 9 * (level - 1))
 
 -- an address that a block around another holds is in the same block

@@ -6,7 +6,7 @@ ghost use Rattle.intel_paging.specs.Paging.{entry_address};
 use layer_base::{Mapped, block_size};
 
 /// The block of an address's entry in a table of a level.
-pub(crate) fn block_around(level: u32, at: u64, to: Option<u64>) -> Mapped
+pub fn block_around(level: u32, at: u64, to: Option<u64>) -> Mapped
     requires least { 1 ≤ level }
     requires most { level ≤ 5 }
     ensures { result ≡ block_around (block_size level) at to }

@@ -8,4 +8,5 @@ mod levels;
 mod tables;
 mod word;
 
-pub use tables::walk;
+pub use block::block_around;
+pub use tables::{asks_tables, walk};

@@ -58,6 +58,16 @@ pub fn walk<Y: Layer, L: Ledger>(
     descend(phys, count_of(levels), page_address(root), at, steps)
 }
 
+/// Whether a walk reads tables at an address: the space is paged, and the address canonical.
+pub fn asks_tables(space: Space, at: u64) -> bool
+    ensures { result ≡ asks_tables space at }
+{
+    match space {
+        Space::Phys => false,
+        Space::Paged { levels, .. } => is_canonical(levels, at),
+    }
+}
+
 // The block around an address that a table of a level maps, or that a table below it does.
 fn descend<Y: Layer, L: Ledger>(
     phys: &mut Y,

@@ -1,5 +1,6 @@
 pub mod Fitting
 pub mod Holes
+pub mod Kept
 pub mod Memories
 pub mod Reading
 pub mod Spaces

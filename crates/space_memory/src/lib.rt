@@ -2,6 +2,7 @@
 //! bytes.
 #![tactic(auto)]
 
+mod around;
 mod memory;
 mod through;
 

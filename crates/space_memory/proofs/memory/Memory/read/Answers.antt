@@ -1,4 +1,4 @@
-use Rattle.std.proofs.Common.{◌+◌, ◌≤◌, ◌<◌, ℕ, length, length-drop, length-take, arith}
+use Rattle.std.proofs.Common.{◌+◌, ◌*◌, ◌≤◌, ◌<◌, ℕ, length, length-drop, length-take, arith}
 use Rattle.std.specs.Prelude.{IfSome}
 use Rattle.layer_base.proofs.BytesFrom.{bytes_from-none}
 use Rattle.layer_base.specs.Run.{IsTrueOf}
@@ -16,6 +16,7 @@ loop-done-init g c = record {
   within = omega arith;
   bytes = IfSome-always c.args.self.now.view (λ view. bytes_from-none (in_space (physical view) c.args.space) c.args.at);
   steps = omega arith;
+  calls = omega arith;
   memory = IsSameMemory-refl c.args.self.now;
 }
 
@@ -31,6 +32,7 @@ loop-done-preserved g c =
       within = omega (arith, within.1, c.loop-done.auto.buf, length-take {A = ℕ}, length-drop {A = ℕ});
       bytes = read-present c.args.self.now.view c.args.space c.args.at done c.loop-done.buf inside loop.bytes c.in-Present.count c.run_at.new.buf _ fits run;
       steps = enough done c.in-Present.count (1 + levels_of c.args.space) c.args.steps.now c.loop-done.steps c.run_at.new.steps within.0 loop.steps (omega (arith, c.in_ok-count.ensures.most_steps));
+      calls = enough done c.in-Present.count (1 + 8 * levels_of c.args.space) c.args.self.now.calls c.loop-done.self.calls c.run_at.new.self.calls within.0 loop.calls (omega (arith, c.in_ok-count.ensures.most_calls));
       memory = IsSameMemory-trans _ _ _ loop.memory c.in_ok-count.ensures.memory;
     }
 

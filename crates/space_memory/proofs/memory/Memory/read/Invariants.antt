@@ -10,6 +10,7 @@ invariant-loop-done g l = record {
   within : l.done ≤ length l.fn.buf;
   bytes : AreRead l.fn.self.view l.space l.at l.done l.buf;
   steps : l.steps ≤ l.fn.steps + l.done * (1 + levels_of l.space);
+  calls : l.self.calls ≤ l.fn.self.calls + l.done * (1 + 8 * levels_of l.space);
   memory : IsSameMemory l.fn.self l.self;
 }
 
