@@ -1,0 +1,4 @@
+pub mod CommandLine
+pub mod Digits
+pub mod Examples
+pub mod Asked

@@ -1,0 +1,4 @@
+pub mod Number
+pub mod CommandLine
+pub mod Settings
+pub mod Made
