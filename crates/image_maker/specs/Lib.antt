@@ -1,0 +1,16 @@
+pub mod Written
+pub mod Rows
+pub mod Machine
+pub mod Header
+pub mod PageTables
+pub mod Kernel
+pub mod Files
+pub mod Banner
+pub mod Task
+pub mod Image
+pub mod Json
+pub mod Structures
+pub mod Types
+pub mod Seen
+pub mod Symbols
+pub mod Script
