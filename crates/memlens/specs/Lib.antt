@@ -1,2 +1,2 @@
 pub mod Formats
-pub mod ReadAhead
+pub mod Paths

@@ -3,26 +3,13 @@
 
 ghost use Rattle.std.specs.Prelude.{◌≡◌, ◌<◌};
 
-mod ahead;
-mod calls;
-mod device;
-mod input;
-mod output;
 mod program;
-mod sink;
-mod source;
-mod standard;
 
-use device::RealDevice;
 use file_layer::FileLayer;
-use input::RealInput;
-use layer_base::{Layer, PathWord, Steps};
-use output::RealOutput;
+use layer_base::{Layer, Steps};
 use program::{exit_code, paths_of, run_with_formats};
+use real_files::{RealDevice, RealInput, RealOutput, RealSink, RealSource, StandardOutput};
 use session::Status;
-use sink::RealSink;
-use source::RealSource;
-use standard::Standard;
 use std::alloc::{AllocError, Global};
 use std::env;
 use std::io::ErrorKind;
@@ -52,15 +39,15 @@ fn run_files<L: Ledger>(rt: &HostRuntime, blank: Blank) -> Result<Status, AllocE
     requires parts { blank.parts ≡ L.parts }
     requires some { 0 < L.parts }
 {
-    let mut script = RealInput::new(Standard::new(rt.stdin()));
-    let mut out = RealOutput::new(Standard::new(rt.stdout()));
+    let mut script = RealInput::new(rt.clone()?);
+    let mut out = RealOutput::new(StandardOutput::new(rt.stdout()));
     let alloc = rt.alloc();
     let words = read_words(rt)?;
-    let paths = paths_of(&words);
-    let device = RealDevice::new(rt.clone()?, PathWord::of(alloc, paths.image)?);
+    let paths = paths_of(alloc, &words)?;
+    let device = RealDevice::new(rt.clone()?, paths.image);
     let image: Box<dyn Layer> = Box::new(alloc, FileLayer::new(alloc, device))?;
-    let mut symbols = RealSource::new(rt.clone()?, PathWord::of(alloc, paths.symbols)?);
-    let mut dump = RealSink::new(rt.clone()?, PathWord::of(alloc, "")?);
+    let mut symbols = RealSource::new(rt.clone()?, paths.symbols);
+    let mut dump = RealSink::new(rt.clone()?, paths.dump);
     let mut steps = Steps::<L>::new(blank);
     Ok(run_with_formats(
         alloc,

@@ -1,43 +1,63 @@
-//! What the program decides itself: the paths, the formats, and the code that it ends with.
-ghost use Rattle.std.specs.Prelude.{◌≡◌, ◌≢◌, [], ◌∷◌, length, map, string_bytes};
+//! What the program decides itself: which files it opens, the formats, and the code that it ends with.
+ghost use Rattle.std.specs.Prelude.{◌≡◌, [], map, string_bytes, IfOk, IfSome, IfNone};
 ghost use Rattle.std.specs.Io.KnownBytes.{Appends};
+ghost use Rattle.std.specs.Option.{unwrap_or};
 ghost use Rattle.std.specs.Process.{exit_status};
 ghost use Rattle.layer_base.specs.Known.{AppendsPrefix};
+ghost use Rattle.program_words.specs.Made.{made_of};
+ghost use Rattle.program_words.specs.Settings.{settings_of};
 ghost use Rattle.session.specs.Headline.{WhereTold};
+ghost use Rattle.session.specs.Made.{RanMade};
 ghost use Rattle.session.specs.Run.{run_of};
 ghost use Rattle.session.specs.Status.{IsAnswer, number_of_status};
 ghost use Rattle.memlens.specs.Formats.{formats};
+ghost use Rattle.memlens.specs.Paths.{paths_by};
 
-use layer_base::{Kind, Layer, Sink, Source, Steps};
-use session::{Status, run};
-use std::alloc::Global;
+use layer_base::{Kind, Layer, PathWord, Sink, Source, Steps};
+use program_words::{WordsFault, settings_of};
+use session::{Status, program};
+use std::alloc::{AllocError, Global};
 use std::process::ExitCode;
 use std::sync::ledger::Ledger;
 
-/// The paths of the files that are read.
-#[derive(Clone, Copy)]
-pub struct Paths<'w> {
-    pub image: &'w str,
-    pub symbols: &'w str,
+/// The paths of the files that the program opens.
+#[derive(Debug, Drop)]
+pub struct Paths {
+    pub image: PathWord,
+    pub symbols: PathWord,
+    pub dump: PathWord,
 }
 
-/// Two words are the paths of the image and of the symbol file. Any other number of words gives empty paths, and the
-/// run refuses those words.
-pub fn paths_of(words: &[String]) -> Paths<'_>
-    ensures two { length words.now ≡ 2 → map string_bytes words.now ≡ result.image.now ∷ result.symbols.now ∷ [] }
-    ensures image { length words.now ≢ 2 → result.image.now ≡ [] }
-    ensures symbols { length words.now ≢ 2 → result.symbols.now ≡ [] }
+fn path_or_empty(alloc: Global, path: Option<PathWord>) -> Result<PathWord, AllocError>
+    ensures { IfOk result (λ word. word ≡ unwrap_or path []) }
 {
-    match words {
-        [image, symbols] => Paths { image, symbols },
-        _ => Paths {
-            image: "",
-            symbols: "",
-        },
+    match path {
+        Some(path) => Ok(path),
+        None => PathWord::of(alloc, ""),
     }
 }
 
-/// Runs the script over an image that may be in one of the program's formats.
+/// The paths that the words name. Without a word for a dump its path is empty, and so are all paths where the words are
+/// refused.
+pub fn paths_of(alloc: Global, words: &[String]) -> Result<Paths, AllocError>
+    ensures { IfOk result (λ paths. paths ≡ paths_by (settings_of (map string_bytes words.now))) }
+{
+    match settings_of(alloc, words) {
+        Ok(settings) => Ok(Paths {
+            image: settings.image,
+            symbols: settings.symbols,
+            dump: path_or_empty(alloc, settings.dump)?,
+        }),
+        Err(WordsFault::Usage) => Ok(Paths {
+            image: PathWord::of(alloc, "")?,
+            symbols: PathWord::of(alloc, "")?,
+            dump: PathWord::of(alloc, "")?,
+        }),
+        Err(WordsFault::Memory) => Err(AllocError),
+    }
+}
+
+/// Does what the words ask for, over an image that may be in one of the program's formats.
 pub fn run_with_formats<J: Source, S: Source, O: Sink, D: Sink, L: Ledger>(
     alloc: Global,
     words: &[String],
@@ -50,17 +70,25 @@ pub fn run_with_formats<J: Source, S: Source, O: Sink, D: Sink, L: Ledger>(
 ) -> Status
     requires file { kind image ≡ Kind.File }
 
-    // However it ends, what was written is a prefix of the text that a run with these formats comes to.
-    ensures text { WhereTold (view image) (J.left symbols.old) (S.left script.old) (λ before j s.
-        AppendsPrefix (O.written out.old) (O.written out.new) (run_of (map string_bytes words.now) formats before j s).text) }
+    // Where the words ask for a made image, the line of its run was written, or a front of it.
+    ensures made { IfSome (made_of (map string_bytes words.now)) (λ number. RanMade number (O.written out.old) (O.written out.new) result) }
 
-    // A status other than a fault or out of memory is the one of that run, and its whole text was written.
-    ensures exact_status { WhereTold (view image) (J.left symbols.old) (S.left script.old) (λ before j s.
-        IsAnswer result → result ≡ (run_of (map string_bytes words.now) formats before j s).status) }
-    ensures exact_text { WhereTold (view image) (J.left symbols.old) (S.left script.old) (λ before j s.
-        IsAnswer result → Appends (O.written out.old) (O.written out.new) (run_of (map string_bytes words.now) formats before j s).text) }
+    // Else what was written and dumped is, however it ends, a prefix of what a run with these formats comes to.
+    ensures text { IfNone (made_of (map string_bytes words.now)) (WhereTold (view image) (J.left symbols.old) (S.left script.old) (λ before j s.
+        AppendsPrefix (O.written out.old) (O.written out.new) (run_of (map string_bytes words.now) formats before j s).text)) }
+
+    ensures dumped { IfNone (made_of (map string_bytes words.now)) (WhereTold (view image) (J.left symbols.old) (S.left script.old) (λ before j s.
+        AppendsPrefix (D.written dump.old) (D.written dump.new) (run_of (map string_bytes words.now) formats before j s).dumped)) }
+
+    // A status other than a fault or out of memory is the one of that run, and all of it was written and dumped.
+    ensures exact_status { IfNone (made_of (map string_bytes words.now)) (WhereTold (view image) (J.left symbols.old) (S.left script.old) (λ before j s.
+        IsAnswer result → result ≡ (run_of (map string_bytes words.now) formats before j s).status)) }
+    ensures exact_text { IfNone (made_of (map string_bytes words.now)) (WhereTold (view image) (J.left symbols.old) (S.left script.old) (λ before j s.
+        IsAnswer result → Appends (O.written out.old) (O.written out.new) (run_of (map string_bytes words.now) formats before j s).text)) }
+    ensures exact_dumped { IfNone (made_of (map string_bytes words.now)) (WhereTold (view image) (J.left symbols.old) (S.left script.old) (λ before j s.
+        IsAnswer result → Appends (D.written dump.old) (D.written dump.new) (run_of (map string_bytes words.now) formats before j s).dumped)) }
 {
-    run(
+    program(
         alloc,
         words,
         image,

@@ -17,30 +17,31 @@ use space_memory::Memory;
 use std::alloc::{AllocError, Global};
 use std::sync::ledger::Ledger;
 
-// How many bytes are read before they are searched.
-const CHUNK: usize = 1_048_576;
-
-/// A scanner of one needle in the addresses of a space from a first to a last one.
+/// A scanner of one needle in the addresses of a space from a first to a last one. It reads `chunk` bytes at a time.
 pub(crate) fn scanner_of(
     alloc: Global,
     space: Space,
     first: u64,
     last: u64,
     needle: &[u8],
+    chunk: usize,
 ) -> Result<Scanner, AllocError>
     requires order { first ≤ last }
     requires some { 1 ≤ length needle.now }
     requires few { length needle.now ≤ 4096 }
+    requires least_chunk { 4096 ≤ chunk }
+    requires most_chunk { chunk ≤ 16777216 }
     ensures hits { IfOk result (λ scanner. (memory : AddressSpace) → hits_left memory scanner ≡ hits (in_space memory space) first last (needle.now ∷ [])) }
     ensures kept { IfOk result (λ scanner. (memory : AddressSpace) → KeepsTrue memory scanner) }
 {
     let mut needles = Needles::new(alloc);
     needles.add(needle)?;
-    Scanner::new(alloc, space, first, last, needles, CHUNK)
+    Scanner::new(alloc, space, first, last, needles, chunk)
 }
 
 /// Writes the address of each hit of a needle among so many addresses of a space from a first one on, and how many hits
-/// there are. The lines of the hits that were found are written before a failure of the image is answered.
+/// there are. The lines of the hits that were found are written before a failure of the image is answered. The text is the
+/// same for every `chunk`, which says how many bytes are read before they are searched.
 pub fn write_scan<Y: Layer, O: Sink, L: Ledger>(
     alloc: Global,
     memory: &mut Memory<Y>,
@@ -48,6 +49,7 @@ pub fn write_scan<Y: Layer, O: Sink, L: Ledger>(
     at: u64,
     len: u64,
     needle: &[u8],
+    chunk: usize,
     out: &mut O,
     steps: &mut Steps<L>,
 ) -> Result<(), PluginFault>
@@ -55,10 +57,12 @@ pub fn write_scan<Y: Layer, O: Sink, L: Ledger>(
     requires range { at + len ≤ 2 ^ 64 }
     requires needle_some { 1 ≤ length needle.now }
     requires needle_few { length needle.now ≤ 4096 }
+    requires least_chunk { 4096 ≤ chunk }
+    requires most_chunk { chunk ≤ 16777216 }
     ensures writes { WritesOver O.written O.faults out.old out.new memory.old memory.new PluginFault.Device PluginFault.Out result
         (λ memory. scan_text (in_space memory space) at len needle.now) }
 {
-    let mut scanner = scanner_of(alloc, space, at, at + (len - 1), needle)?;
+    let mut scanner = scanner_of(alloc, space, at, at + (len - 1), needle, chunk)?;
     let mut text = Vec::new(alloc);
     write_hits(
         memory,

@@ -3,14 +3,17 @@ pub mod Attached
 pub mod Cells
 pub mod Clipped
 pub mod Cutting
+pub mod Dumps
 pub mod Ending
 pub mod LineClips
+pub mod OverMade
 pub mod Parts
 pub mod Pieces
 pub mod Projections
 pub mod Quits
 pub mod Refusals
 pub mod RunLines
+pub mod SameTexts
 pub mod Sinks
 pub mod Statuses
 pub mod SymbolRuns

@@ -1,5 +1,5 @@
 -- A run over the bytes that were taken of a symbol file is the one over the file.
-use Rattle.std.proofs.Common.{◌≡◌, ℕ, ◌<◌, ◌≤◌, true, ltb, List, length, Option, Err, refl, sym, ◌∙◌, ap, ⊎_elim, arith, length-take}
+use Rattle.std.proofs.Common.{◌≡◌, ℕ, ◌<◌, ◌≤◌, Bool, true, ltb, List, length, Option, Err, refl, sym, ◌∙◌, ap, ⊎_elim, arith, length-take}
 use Rattle.std.proofs.lemmas.Bool.{cases_lt}
 use Rattle.std.proofs.lemmas.Bool.Decides.{nat_tests}
 use Rattle.std.proofs.lemmas.List.{take_all}
@@ -33,13 +33,13 @@ length-taken : (symbols : List ℕ) → 134217729 ≤ length symbols → length 
 unfolding symbols_taken
 length-taken symbols long = omega (arith, length-take 134217729 symbols)
 
-pub table_run-taken : (memory : AddressSpace) (symbols script : List ℕ) → table_run memory (table_of (symbols_taken symbols)) script ≡ table_run memory (table_of symbols) script
-table_run-taken memory symbols script = ⊎_elim
+pub table_run-taken : (has_dump : Bool) (memory : AddressSpace) (symbols script : List ℕ) → table_run has_dump memory (table_of (symbols_taken symbols)) script ≡ table_run has_dump memory (table_of symbols) script
+table_run-taken has_dump memory symbols script = ⊎_elim
     (λ long.
     let taken = length-taken symbols (omega (arith, long)) in
-    ap (λ t. table_run memory t script) (too-large (symbols_taken symbols) (omega (arith, taken))) ∙ too-large-text (length (symbols_taken symbols)) (length symbols)
-    ∙ ap (λ t. table_run memory t script) (sym (too-large symbols (omega (arith, long)))))
-    (λ short. ap (λ l. table_run memory (table_of l) script) (taken-short symbols short)) (cases_lt 134217729 (length symbols))
+    ap (λ t. table_run has_dump memory t script) (too-large (symbols_taken symbols) (omega (arith, taken))) ∙ too-large-text (length (symbols_taken symbols)) (length symbols)
+    ∙ ap (λ t. table_run has_dump memory t script) (sym (too-large symbols (omega (arith, long)))))
+    (λ short. ap (λ l. table_run has_dump memory (table_of l) script) (taken-short symbols short)) (cases_lt 134217729 (length symbols))
 
 pub table_in-taken : (symbols : List ℕ) → table_in (table_of (symbols_taken symbols)) ≡ table_in (table_of symbols)
 table_in-taken symbols = ⊎_elim

@@ -1,19 +1,17 @@
 -- What a script is run over.
-use Rattle.std.specs.Prelude.{ℕ, Bool, false, List, [], Result, Ok, Err}
+use Rattle.std.specs.Prelude.{ℕ, List, [], Result, Ok, Err}
 use Rattle.layer_base.specs.AddressSpace.{AddressSpace}
 use Rattle.layer_base.specs.View.{View, physical}
 use Rattle.isf_reader.specs.Table.{IsfTable, table_of}
 use Rattle.isf_reader.specs.declared.refusal.IsfRefusal.{IsfRefusal}
 
--- the physical memory of an image, the table of a symbol file, and whether there is a file for dumps
+-- the physical memory of an image, and the table of a symbol file
 pub record Evidence : Type 0 where
   pub memory : AddressSpace
   pub table : IsfTable
-  pub has_dump : Bool
 
--- a memory and a table; no word for a dump is accepted yet
 abbrev pub evidence_at : AddressSpace → IsfTable → Evidence
-evidence_at memory table = record { memory = memory; table = table; has_dump = false }
+evidence_at memory table = record { memory = memory; table = table }
 
 abbrev pub evidence_in : View → IsfTable → Evidence
 evidence_in view table = evidence_at (physical view) table

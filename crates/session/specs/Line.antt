@@ -12,12 +12,13 @@ use Rattle.session.specs.Turn.{flow_by}
 use Rattle.session.specs.declared.command.Flow.{Flow}
 
 -- what a line's command says, or the error line of a line that is no command
-abbrev pub said_of : Evidence → Result Command LineFault → Said
-said_of evidence (Ok command) = command_said evidence command
-said_of evidence (Err fault) = prints (fault_text fault)
+abbrev pub said_of : Bool → Evidence → Result Command LineFault → Said
+said_of has_dump evidence (Ok command) = command_said has_dump evidence command
+said_of has_dump evidence (Err fault) = prints (fault_text fault)
 
-abbrev pub line_said : Evidence → List ℕ → Said
-line_said evidence line = said_of evidence (command_of line)
+-- what a line says, by whether there is a file for dumps
+abbrev pub line_said : Bool → Evidence → List ℕ → Said
+line_said has_dump evidence line = said_of has_dump evidence (command_of line)
 
 -- the command that ends a script
 abbrev pub ends_script : Result Command LineFault → Bool

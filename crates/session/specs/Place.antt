@@ -18,7 +18,8 @@ use Rattle.typed_object.specs.Ground.{kernel_space}
 use Rattle.typed_object.specs.Needs.{symbol_address, first_missing}
 use Rattle.session.specs.Evidence.{Evidence}
 use Rattle.session.specs.Kernel.{kernel_of}
-use Rattle.session.specs.Refusal.{and_then, text_over}
+use Rattle.session.specs.Refusal.{and_then, text_over, said_over}
+use Rattle.session.specs.Said.{Said}
 use Rattle.session.specs.declared.place.Place.{Place}
 use Rattle.session.specs.declared.refusal.CommandRefusal.{CommandRefusal}
 use Rattle.session.specs.declared.refusal.CommandRefusal.TheVariants.{Missing, NoTask, NoSpace, NoSymbol, OutOfRange}
@@ -68,3 +69,7 @@ place_of evidence space at len = and_then (space_of evidence space) (λ space. a
 -- what is printed of a place, or why there is none
 abbrev pub text_at : Evidence → SpaceWord → AddrWord → ℕ → (Place → List ℕ) → List ℕ
 text_at evidence space at len text = text_over (place_of evidence space at len) text
+
+-- what is said of a place, or why there is none
+abbrev pub said_at : Evidence → SpaceWord → AddrWord → ℕ → (Place → Said) → Said
+said_at evidence space at len says = said_over (place_of evidence space at len) says

@@ -3,6 +3,7 @@ use Rattle.std.specs.Prelude.{◌≡◌, ℕ, List, Result, Ok, Err}
 use Rattle.cell_text.specs.ErrorLine.{missing_text, no_symbol_text, no_task_text, no_space_text}
 use Rattle.kernel_find.specs.FoundText.{found_text}
 use Rattle.session.specs.Fault.{out_of_range_text}
+use Rattle.session.specs.Said.{Said, prints}
 use Rattle.session.specs.declared.refusal.CommandRefusal.{CommandRefusal}
 use Rattle.session.specs.declared.refusal.CommandRefusal.TheVariants.{NoKernel, Missing, NoTask, NoSpace, NoSymbol, OutOfRange}
 use Rattle.session.specs.declared.refusal.NotRun.{NotRun}
@@ -26,6 +27,11 @@ and_then (Err refusal) next = Err refusal
 abbrev pub text_over : {A : Type 0} → Result A CommandRefusal → (A → List ℕ) → List ℕ
 text_over (Ok a) text = text a
 text_over (Err refusal) text = refusal_text refusal
+
+-- what is said of an answer, or the line of its refusal
+abbrev pub said_over : {A : Type 0} → Result A CommandRefusal → (A → Said) → Said
+said_over (Ok a) says = says a
+said_over (Err refusal) says = prints (refusal_text refusal)
 
 -- What is wanted was answered, or its refusal. A fault says nothing of it.
 abbrev pub AnswersAs : {A : Type 0} → Result A CommandRefusal → Result A NotRun → Type 0

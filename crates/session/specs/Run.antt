@@ -1,5 +1,5 @@
 -- What a run comes to.
-use Rattle.std.specs.Prelude.{ℕ, if◌then◌else◌, List, [], codes, Result, Ok, Err}
+use Rattle.std.specs.Prelude.{ℕ, Bool, if◌then◌else◌, List, [], codes, Result, Ok, Err}
 use Rattle.layer_base.specs.AddressSpace.{AddressSpace}
 use Rattle.layer_base.specs.View.{View, physical}
 use Rattle.layer_base.specs.declared.layer.Kind.{Kind}
@@ -12,7 +12,7 @@ use Rattle.session.specs.Outcome.{Outcome}
 use Rattle.session.specs.Script.{script_run}
 use Rattle.session.specs.Stack.{Shown, as_file, stack_of, attached, attached_view, refusal_text}
 use Rattle.session.specs.SymbolFile.{symbols_taken}
-use Rattle.session.specs.Words.{are_accepted}
+use Rattle.session.specs.Words.{are_accepted, name_dump}
 use Rattle.session.specs.declared.stack.Refusal.{Refusal}
 use Rattle.session.specs.declared.status.Status.TheVariants as status
 
@@ -47,9 +47,9 @@ symbols_refused refusal = record {
 }
 
 -- the script is run over a memory and the table of a symbol file
-abbrev pub table_run : AddressSpace → Result IsfTable IsfRefusal → List ℕ → Outcome
-table_run memory (Ok table) script = script_run (line_said (evidence_at memory table)) is_quit script
-table_run memory (Err refusal) script = symbols_refused refusal
+abbrev pub table_run : Bool → AddressSpace → Result IsfTable IsfRefusal → List ℕ → Outcome
+table_run has_dump memory (Ok table) script = script_run (line_said has_dump (evidence_at memory table)) is_quit script
+table_run has_dump memory (Err refusal) script = symbols_refused refusal
 
 -- the symbol file was taken before that
 abbrev pub behind_symbols : List ℕ → Outcome → Outcome
@@ -62,18 +62,18 @@ behind_symbols symbols outcome = record {
 }
 
 -- the symbol file is read, and then the script is run over a memory
-abbrev pub memory_run : AddressSpace → List ℕ → List ℕ → Outcome
-memory_run memory symbols script = behind_symbols symbols (table_run memory (table_of symbols) script)
+abbrev pub memory_run : Bool → AddressSpace → List ℕ → List ℕ → Outcome
+memory_run has_dump memory symbols script = behind_symbols symbols (table_run has_dump memory (table_of symbols) script)
 
 -- over the memory of what the image shows
-abbrev pub stack_run : Result Shown Refusal → List ℕ → List ℕ → Outcome
-stack_run (Ok shown) symbols script = memory_run (physical shown.view) symbols script
-stack_run (Err refusal) symbols script = image_refused refusal
+abbrev pub stack_run : Bool → Result Shown Refusal → List ℕ → List ℕ → Outcome
+stack_run has_dump (Ok shown) symbols script = memory_run has_dump (physical shown.view) symbols script
+stack_run has_dump (Err refusal) symbols script = image_refused refusal
 
 -- Words that aren't accepted are refused, and nothing is taken. Else the formats are tried on the image, the symbol file
--- is read, and the script is run over what they show.
+-- is read, and the script is run over what they show. The options of the words change nothing of it.
 unfoldable pub run_of : List (List ℕ) → List Kind → View → List ℕ → List ℕ → Outcome
-run_of words formats view symbols script = if are_accepted words then stack_run (stack_of formats view) symbols script else refused
+run_of words formats view symbols script = if are_accepted words then stack_run (name_dump words) (stack_of formats view) symbols script else refused
 
 -- what a script is run over, where the symbol file is not refused
 abbrev pub evidence_of : List Kind → View → List ℕ → Evidence

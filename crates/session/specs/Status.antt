@@ -40,6 +40,12 @@ fault_of_plugin plugin.Device = fault.Image
 fault_of_plugin plugin.Out = fault.Out
 fault_of_plugin plugin.Memory = fault.Memory
 
+-- of what writes to the dump
+abbrev pub fault_of_dump : PluginFault → CommandFault
+fault_of_dump plugin.Device = fault.Image
+fault_of_dump plugin.Out = fault.Dump
+fault_of_dump plugin.Memory = fault.Memory
+
 abbrev pub status_of_fault : CommandFault → Status
 status_of_fault fault.Image = status.ImageFault
 status_of_fault fault.Out = status.OutFault

@@ -1,16 +1,23 @@
 //! The commands that look at a place.
-ghost use Rattle.std.specs.Prelude.{◌≡◌, ◌*◌, ◌<◌, ◌≤◌, length};
+ghost use Rattle.std.specs.Prelude.{◌≡◌, ◌*◌, ◌<◌, ◌≤◌, length, IsErrOf, IfSome};
+ghost use Rattle.layer_base.specs.Counts.{HasCause};
+ghost use Rattle.layer_base.specs.Known.{Writes};
+ghost use Rattle.layer_base.specs.View.{physical};
+ghost use Rattle.space_memory.specs.State.{IsSameMemory};
 ghost use Rattle.space_memory.specs.Writer.{WritesOver};
 ghost use Rattle.command_words.specs.Limits.{most_line, most_path};
 ghost use Rattle.session.specs.Command.{read_text, translate_text, type_text, hits_text};
-ghost use Rattle.session.specs.Evidence.{evidence_at};
+ghost use Rattle.session.specs.Dump.{dump_said};
+ghost use Rattle.session.specs.Evidence.{evidence_at, evidence_in};
 ghost use Rattle.session.specs.Kernel.{KeepsKernel};
-ghost use Rattle.session.specs.Place.{text_at};
+ghost use Rattle.session.specs.Place.{text_at, said_at};
 
 use crate::desk::Desk;
+use crate::dump::write_dump;
 use crate::place::place_of;
 use crate::read::write_read;
 use crate::refusal::{NotRun, write_refusal};
+use crate::status::CommandFault;
 use crate::translate::write_translation;
 use command_words::{AddrWord, SpaceWord};
 use kernel_records::PluginFault;
@@ -123,10 +130,50 @@ pub(crate) fn scan_at<Y: Layer, O: Sink, L: Ledger>(
             place.at,
             len,
             needle,
+            desk.chunk.bytes,
             out,
             steps,
         ),
         Err(NotRun::Refused(refusal)) => Ok(write_refusal(desk.alloc, &refusal, out)?),
         Err(NotRun::Fault(fault)) => Err(fault.into()),
+    }
+}
+
+/// Dumps so many bytes from a place on, and writes how many they are.
+pub(crate) fn dump_at<Y: Layer, O: Sink, D: Sink, L: Ledger>(
+    desk: &mut Desk<'_, '_, Y>,
+    space: SpaceWord,
+    at: &AddrWord,
+    len: u64,
+    out: &mut O,
+    dump: &mut D,
+    steps: &mut Steps<L>,
+) -> Result<(), CommandFault>
+    requires some { 1 ≤ len }
+    requires kept { KeepsKernel desk.old.memory.view desk.old.file.table.now desk.old.found }
+    ensures text { IfSome desk.old.memory.view (λ view.
+        Writes (O.written out.old) (O.written out.new) result (said_at (evidence_in view desk.old.file.table.now) space at.now len (dump_said (physical view) len)).text) }
+    ensures dumped { IfSome desk.old.memory.view (λ view.
+        Writes (D.written dump.old) (D.written dump.new) result (said_at (evidence_in view desk.old.file.table.now) space at.now len (dump_said (physical view) len)).dumped) }
+    ensures memory { IsSameMemory desk.old.memory desk.new.memory }
+    ensures kept { KeepsKernel desk.new.memory.view desk.new.file.table.now desk.new.found }
+    ensures file { desk.new.file ≡ desk.old.file }
+    ensures image { HasCause desk.old.memory.faults desk.new.memory.faults (IsErrOf result CommandFault.Image) }
+    ensures out { HasCause (O.faults out.old) (O.faults out.new) (IsErrOf result CommandFault.Out) }
+    ensures dump { HasCause (D.faults dump.old) (D.faults dump.new) (IsErrOf result CommandFault.Dump) }
+{
+    match place_of(desk, space, at, len, steps) {
+        Ok(place) => write_dump(
+            desk.alloc,
+            &mut desk.memory,
+            &mut desk.page.bytes,
+            place,
+            len,
+            out,
+            dump,
+            steps,
+        ),
+        Err(NotRun::Refused(refusal)) => Ok(write_refusal(desk.alloc, &refusal, out)?),
+        Err(NotRun::Fault(fault)) => Err(PluginFault::from(fault).into()),
     }
 }

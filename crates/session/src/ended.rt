@@ -18,18 +18,20 @@ ghost use Rattle.session.specs.Script.{script_run};
 ghost use Rattle.session.specs.Stack.{stack_of, attached, KeepsOrAttaches, LeavesLayer, Shows};
 ghost use Rattle.session.specs.Status.{IsAnswer};
 ghost use Rattle.session.specs.SymbolFile.{symbols_taken};
+ghost use Rattle.session.specs.Words.{name_dump};
 
 use crate::Status;
 use crate::desk::Desk;
 use crate::read::Page;
 use crate::script::run_script;
+use crate::setup::Setup;
 use crate::stack::{StackFault, attach_formats, write_refusal};
 use crate::status::status_after_line;
 use crate::symbol_file::SymbolFile;
 use crate::symbols::{SymbolsFault, refuse_symbols, take_symbols};
-use crate::words::are_accepted;
 use isf_reader::Table;
 use layer_base::{Kind, Layer, Sink, Source, Steps, write_whole};
+use program_words::{WordsFault, settings_of};
 use space_memory::Memory;
 use std::alloc::Global;
 use std::sync::ledger::Ledger;
@@ -42,9 +44,6 @@ pub struct Ended {
     pub layer: Box<dyn Layer>,
 }
 
-/// How many runs of pages a memory may keep. It keeps none yet.
-const KEPT_RUNS: usize = 4096;
-
 const USAGE: &[u8] = b"usage: memlens IMAGE SYMBOLS [DUMP] [--cache N] [--chunk N]\n";
 
 // Runs the script over what the image shows and the symbol file.
@@ -53,29 +52,31 @@ fn run_file<Y: Layer, S: Source, O: Sink, D: Sink, L: Ledger>(
     alloc: Global,
     image: Y,
     file: SymbolFile<'_, '_>,
+    setup: Setup,
     script: &mut S,
     out: &mut O,
     dump: &mut D,
     steps: &mut Steps<L>,
 ) -> (Status, Y)
     ensures ran { IfSome (Y.view image) (λ view. IfSome (S.left script.old) (λ bytes.
-        RanOver (line_said (evidence_in view file.entry.table.now)) (script_run (line_said (evidence_in view file.entry.table.now)) is_quit bytes) bytes (S.left script.new)
+        RanOver (line_said setup.has_dump (evidence_in view file.entry.table.now)) (script_run (line_said setup.has_dump (evidence_in view file.entry.table.now)) is_quit bytes) bytes (S.left script.new)
         (O.written out.old) (O.written out.new) (D.written dump.old) (D.written dump.new) result.0)) }
     ensures most_script { GaveAtMost (most_script + 1) (S.left script.old) (S.left script.new) }
     ensures end { IsScriptEnd result.0 }
     ensures layer { IsSameLayer Y.view Y.kind Y.faults Y.calls image result.1 }
     ensures causes { FaultsHaveCause (Y.faults image) (Y.faults result.1) (S.faults script.old) (S.faults script.new) (O.faults out.old) (O.faults out.new) (D.faults dump.old) (D.faults dump.new) result.0 }
 {
-    match Memory::new(alloc, image, KEPT_RUNS) {
+    match Memory::new(alloc, image, setup.cache) {
         Ok(memory) => {
             let mut desk = Desk {
                 alloc,
                 memory,
                 file,
+                chunk: setup.chunk,
                 page: Page::new(alloc),
                 found: None,
             };
-            let status = run_script(&mut desk, script, out, dump, steps);
+            let status = run_script(&mut desk, script, setup.has_dump, out, dump, steps);
             (status, desk.memory.into_layer())
         }
         Err(refused) => (Status::Memory, refused.phys),
@@ -88,13 +89,14 @@ fn run_table<Y: Layer, S: Source, O: Sink, D: Sink, L: Ledger>(
     alloc: Global,
     image: Y,
     table: &Table,
+    setup: Setup,
     script: &mut S,
     out: &mut O,
     dump: &mut D,
     steps: &mut Steps<L>,
 ) -> (Status, Y)
     ensures ran { IfSome (Y.view image) (λ view. IfSome (S.left script.old) (λ bytes.
-        RanOver (line_said (evidence_in view table.now)) (script_run (line_said (evidence_in view table.now)) is_quit bytes) bytes (S.left script.new)
+        RanOver (line_said setup.has_dump (evidence_in view table.now)) (script_run (line_said setup.has_dump (evidence_in view table.now)) is_quit bytes) bytes (S.left script.new)
         (O.written out.old) (O.written out.new) (D.written dump.old) (D.written dump.new) result.0)) }
     ensures most_script { GaveAtMost (most_script + 1) (S.left script.old) (S.left script.new) }
     ensures end { IsScriptEnd result.0 }
@@ -106,6 +108,7 @@ fn run_table<Y: Layer, S: Source, O: Sink, D: Sink, L: Ledger>(
             alloc,
             image,
             SymbolFile::of(table, &symbols),
+            setup,
             script,
             out,
             dump,
@@ -121,13 +124,14 @@ fn run_bytes<Y: Layer, S: Source, O: Sink, D: Sink, L: Ledger>(
     alloc: Global,
     image: Y,
     symbols: Vec<u8>,
+    setup: Setup,
     script: &mut S,
     out: &mut O,
     dump: &mut D,
     steps: &mut Steps<L>,
 ) -> (Status, Y)
     ensures ran { IfSome (Y.view image) (λ view. IfSome (S.left script.old) (λ bytes.
-        RanOver (line_said (evidence_in view (table_in (table_of symbols.items)))) (table_run (physical view) (table_of symbols.items) bytes) bytes (S.left script.new)
+        RanOver (line_said setup.has_dump (evidence_in view (table_in (table_of symbols.items)))) (table_run setup.has_dump (physical view) (table_of symbols.items) bytes) bytes (S.left script.new)
         (O.written out.old) (O.written out.new) (D.written dump.old) (D.written dump.new) result.0)) }
     ensures most_script { GaveAtMost (most_script + 1) (S.left script.old) (S.left script.new) }
     ensures end { IsTableEnd result.0 }
@@ -137,7 +141,7 @@ fn run_bytes<Y: Layer, S: Source, O: Sink, D: Sink, L: Ledger>(
     let read = Table::read(alloc, &symbols);
     drop(symbols);
     match read {
-        Ok(table) => run_table(alloc, image, &table, script, out, dump, steps),
+        Ok(table) => run_table(alloc, image, &table, setup, script, out, dump, steps),
         Err(refusal) => (refuse_symbols(alloc, refusal, out), image),
     }
 }
@@ -147,6 +151,7 @@ fn run_bytes<Y: Layer, S: Source, O: Sink, D: Sink, L: Ledger>(
 fn run_memory<Y: Layer, J: Source, S: Source, O: Sink, D: Sink, L: Ledger>(
     alloc: Global,
     image: Y,
+    setup: Setup,
     symbols: &mut J,
     script: &mut S,
     out: &mut O,
@@ -154,7 +159,7 @@ fn run_memory<Y: Layer, J: Source, S: Source, O: Sink, D: Sink, L: Ledger>(
     steps: &mut Steps<L>,
 ) -> (Status, Y)
     ensures ran { WhereTold (Y.view image) (J.left symbols.old) (S.left script.old) (λ view j s.
-        RanOver (line_said (evidence_over (physical view) j)) (memory_run (physical view) j s) s (S.left script.new)
+        RanOver (line_said setup.has_dump (evidence_over (physical view) j)) (memory_run setup.has_dump (physical view) j s) s (S.left script.new)
         (O.written out.old) (O.written out.new) (D.written dump.old) (D.written dump.new) result.0) }
     ensures took { IfSome (J.left symbols.old) (λ j. Took (symbols_taken j) (J.left symbols.old) (J.left symbols.new) result.0) }
     ensures most_symbols { GaveAtMost (most_bytes + 1) (J.left symbols.old) (J.left symbols.new) }
@@ -164,7 +169,7 @@ fn run_memory<Y: Layer, J: Source, S: Source, O: Sink, D: Sink, L: Ledger>(
     ensures causes { FaultsHaveCause (Y.faults image) (Y.faults result.1) (S.faults script.old) (S.faults script.new) (O.faults out.old) (O.faults out.new) (D.faults dump.old) (D.faults dump.new) result.0 }
 {
     match take_symbols(alloc, symbols) {
-        Ok(bytes) => run_bytes(alloc, image, bytes, script, out, dump, steps),
+        Ok(bytes) => run_bytes(alloc, image, bytes, setup, script, out, dump, steps),
         Err(SymbolsFault::Failed) => (Status::SymbolsFault, image),
         Err(SymbolsFault::Memory) => (Status::Memory, image),
     }
@@ -176,6 +181,7 @@ fn run_image<Y: Layer, J: Source, S: Source, O: Sink, D: Sink, L: Ledger>(
     alloc: Global,
     image: Y,
     formats: &[Kind],
+    setup: Setup,
     symbols: &mut J,
     script: &mut S,
     out: &mut O,
@@ -184,10 +190,10 @@ fn run_image<Y: Layer, J: Source, S: Source, O: Sink, D: Sink, L: Ledger>(
 ) -> (Status, Y)
     requires file { Y.kind image ≡ Kind.File }
     ensures ran { WhereTold (Y.view image) (J.left symbols.old) (S.left script.old) (λ before j s.
-        RanOver (line_said (evidence_of formats.now before j)) (stack_run (stack_of formats.now before) j s) s (S.left script.new)
+        RanOver (line_said setup.has_dump (evidence_of formats.now before j)) (stack_run setup.has_dump (stack_of formats.now before) j s) s (S.left script.new)
         (O.written out.old) (O.written out.new) (D.written dump.old) (D.written dump.new) result.0) }
     ensures took { WhereTold (Y.view image) (J.left symbols.old) (S.left script.old) (λ before j s.
-        Took (stack_run (stack_of formats.now before) j s).symbols_taken (J.left symbols.old) (J.left symbols.new) result.0) }
+        Took (stack_run setup.has_dump (stack_of formats.now before) j s).symbols_taken (J.left symbols.old) (J.left symbols.new) result.0) }
     ensures most_symbols { GaveAtMost (most_bytes + 1) (J.left symbols.old) (J.left symbols.new) }
     ensures most_script { GaveAtMost (most_script + 1) (S.left script.old) (S.left script.new) }
     ensures layer { LeavesLayer Y.view Y.kind Y.calls formats.now (attached formats.now) image result.1 result.0 }
@@ -196,7 +202,7 @@ fn run_image<Y: Layer, J: Source, S: Source, O: Sink, D: Sink, L: Ledger>(
 {
     let mut image = image;
     match attach_formats(&mut image, formats) {
-        Ok(()) => run_memory(alloc, image, symbols, script, out, dump, steps),
+        Ok(()) => run_memory(alloc, image, setup, symbols, script, out, dump, steps),
         Err(StackFault::Refused(refusal)) => {
             let refused = write_refusal(alloc, refusal, out);
             (status_after_line(Status::ImageRefused, refused), image)
@@ -208,7 +214,7 @@ fn run_image<Y: Layer, J: Source, S: Source, O: Sink, D: Sink, L: Ledger>(
 
 // A run over a layer that may be unboxed.
 #[tactic(auto, using(crate::proofs::AtMost::gave_none))]
-fn run_over<Y: Layer, J: Source, S: Source, O: Sink, D: Sink, L: Ledger>(
+pub(crate) fn run_over<Y: Layer, J: Source, S: Source, O: Sink, D: Sink, L: Ledger>(
     alloc: Global,
     words: &[String],
     image: Y,
@@ -221,7 +227,7 @@ fn run_over<Y: Layer, J: Source, S: Source, O: Sink, D: Sink, L: Ledger>(
 ) -> (Status, Y)
     requires file { Y.kind image ≡ Kind.File }
     ensures ran { WhereTold (Y.view image) (J.left symbols.old) (S.left script.old) (λ before j s.
-        RanOver (line_said (evidence_of formats.now before j)) (run_of (map string_bytes words.now) formats.now before j s) s (S.left script.new)
+        RanOver (line_said (name_dump (map string_bytes words.now)) (evidence_of formats.now before j)) (run_of (map string_bytes words.now) formats.now before j s) s (S.left script.new)
         (O.written out.old) (O.written out.new) (D.written dump.old) (D.written dump.new) result.0) }
     ensures took { WhereTold (Y.view image) (J.left symbols.old) (S.left script.old) (λ before j s.
         Took (run_of (map string_bytes words.now) formats.now before j s).symbols_taken (J.left symbols.old) (J.left symbols.new) result.0) }
@@ -231,13 +237,19 @@ fn run_over<Y: Layer, J: Source, S: Source, O: Sink, D: Sink, L: Ledger>(
     ensures symbols { HasCause (J.faults symbols.old) (J.faults symbols.new) (result.0 ≡ Status.SymbolsFault) }
     ensures causes { FaultsHaveCause (Y.faults image) (Y.faults result.1) (S.faults script.old) (S.faults script.new) (O.faults out.old) (O.faults out.new) (D.faults dump.old) (D.faults dump.new) result.0 }
 {
-    if !are_accepted(words) {
-        return (
-            status_after_line(Status::Usage, write_whole(out, USAGE)),
-            image,
-        );
+    match settings_of(alloc, words) {
+        Ok(settings) => {
+            let setup = Setup::of(&settings);
+            run_image(
+                alloc, image, formats, setup, symbols, script, out, dump, steps,
+            )
+        }
+        Err(WordsFault::Usage) => {
+            let written = write_whole(out, USAGE);
+            (status_after_line(Status::Usage, written), image)
+        }
+        Err(WordsFault::Memory) => (Status::Memory, image),
     }
-    run_image(alloc, image, formats, symbols, script, out, dump, steps)
 }
 
 /// Runs a script over an image and a symbol file, and writes what its lines print and dump.
@@ -247,8 +259,9 @@ fn run_over<Y: Layer, J: Source, S: Source, O: Sink, D: Sink, L: Ledger>(
 /// to its end, or until one byte more was taken than it may have, and read as a table. The script is taken one byte at a
 /// time, and a line is run before the next is read; the bytes behind the newline of a `quit` are left to the caller. The
 /// kernel is searched for the first line that needs it, and what that came to is kept for the others. What the lines dump
-/// goes to the dump's file; no command dumps anything yet. A refusal of the words, of the image, of the symbol file, or of
-/// a script that is too long, is a line of the text.
+/// goes to `dump` where the words name a file for dumps; where they name none, nothing is dumped. What is written and
+/// dumped is the same for every size of the cache and of the chunks that the words name. A refusal of the words, of the
+/// image, of the symbol file, or of a script that is too long, is a line of the text.
 ///
 /// The clauses on content hold where the image, the symbol file and the script tell what they hold, and those on a
 /// sink where it tells what was written. When `Memory` comes is left open.
@@ -282,9 +295,9 @@ pub fn run<J: Source, S: Source, O: Sink, D: Sink, L: Ledger>(
     // Every line that was read, but for the last, has its whole text in what was written, and all that it dumps in what
     // was dumped.
     ensures whole_lines { WhereTold (view image) (J.left symbols.old) (S.left script.old) (λ before j s.
-        HasWholeLines (text_part (line_said (evidence_of formats.now before j))) (S.left script.old) (S.left script.new) (O.written out.old) (O.written out.new) result.status) }
+        HasWholeLines (text_part (line_said (name_dump (map string_bytes words.now)) (evidence_of formats.now before j))) (S.left script.old) (S.left script.new) (O.written out.old) (O.written out.new) result.status) }
     ensures whole_dumps { WhereTold (view image) (J.left symbols.old) (S.left script.old) (λ before j s.
-        HasWholeLines (dump_part (line_said (evidence_of formats.now before j))) (S.left script.old) (S.left script.new) (D.written dump.old) (D.written dump.new) result.status) }
+        HasWholeLines (dump_part (line_said (name_dump (map string_bytes words.now)) (evidence_of formats.now before j))) (S.left script.old) (S.left script.new) (D.written dump.old) (D.written dump.new) result.status) }
 
     // A status other than a fault or out of memory is the one that the run comes to, and all was written and taken.
     ensures exact_status { WhereTold (view image) (J.left symbols.old) (S.left script.old) (λ before j s.

@@ -48,7 +48,7 @@ fn write_wanted<O: Sink>(alloc: Global, wanted: u32, out: &mut O) -> Result<(), 
 }
 
 /// Writes the error line of a line that is no command, or none that runs yet.
-pub(crate) fn write_unknown<O: Sink>(out: &mut O) -> Result<(), SinkFault>
+fn write_unknown<O: Sink>(out: &mut O) -> Result<(), SinkFault>
     ensures text { Writes (O.written out.old) (O.written out.new) result unknown_text }
     ensures cause { HasCause (O.faults out.old) (O.faults out.new) (IsErrOf result SinkFault.Failed) }
 {

@@ -17,9 +17,6 @@ use kernel_records::{Kernel, PluginFault, WalkFault};
 use layer_base::{Layer, Sink, Steps, write_whole};
 use std::sync::ledger::Ledger;
 
-// How many bytes are read before they are searched.
-const CHUNK: usize = 1_048_576;
-
 // Searches the kernel, and keeps what that came to. A fault keeps nothing.
 fn search_kernel<Y: Layer, L: Ledger>(
     desk: &mut Desk<'_, '_, Y>,
@@ -37,7 +34,7 @@ fn search_kernel<Y: Layer, L: Ledger>(
         &mut desk.memory,
         desk.file.table,
         desk.file.symbols,
-        CHUNK,
+        desk.chunk.bytes,
         steps,
     ) {
         Ok(found) => {

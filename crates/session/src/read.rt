@@ -24,7 +24,7 @@ const PIECE: usize = 65_536;
 /// A piece of memory, and the rows of it. It takes no memory before the first piece, and then keeps what it took.
 #[derive(Drop)]
 pub(crate) struct Page {
-    bytes: Vec<u8>,
+    pub(crate) bytes: Vec<u8>,
     cells: Vec<Option<u8>>,
     text: Vec<u8>,
 }

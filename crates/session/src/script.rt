@@ -44,15 +44,16 @@ fn take_in<Y: Layer, O: Sink, D: Sink, L: Ledger>(
     desk: &mut Desk<'_, '_, Y>,
     line: &mut LineBuffer,
     byte: u8,
+    has_dump: bool,
     out: &mut O,
     dump: &mut D,
     steps: &mut Steps<L>,
 ) -> Result<Flow, CommandFault>
     requires kept { KeepsKernel desk.old.memory.view desk.old.file.table.now desk.old.found }
     ensures text { IfSome desk.old.memory.view (λ view.
-        Writes (O.written out.old) (O.written out.new) result (turn_part (text_part (line_said (evidence_in view desk.old.file.table.now))) line.old byte)) }
+        Writes (O.written out.old) (O.written out.new) result (turn_part (text_part (line_said has_dump (evidence_in view desk.old.file.table.now))) line.old byte)) }
     ensures dumped { IfSome desk.old.memory.view (λ view.
-        Writes (D.written dump.old) (D.written dump.new) result (turn_part (dump_part (line_said (evidence_in view desk.old.file.table.now))) line.old byte)) }
+        Writes (D.written dump.old) (D.written dump.new) result (turn_part (dump_part (line_said has_dump (evidence_in view desk.old.file.table.now))) line.old byte)) }
     ensures flow { IfOk result (λ flow. flow ≡ turn_flow is_quit line.old byte) }
     ensures line { OnOk result (line.new ≡ turn_line line.old byte) }
     ensures memory { IsSameMemory desk.old.memory desk.new.memory }
@@ -66,7 +67,7 @@ fn take_in<Y: Layer, O: Sink, D: Sink, L: Ledger>(
         line.add(byte);
         return Ok(Flow::NextLine);
     }
-    let flow = run_line(desk, line.bytes(), out, dump, steps)?;
+    let flow = run_line(desk, line.bytes(), has_dump, out, dump, steps)?;
     line.clear();
     Ok(flow)
 }
@@ -75,15 +76,16 @@ fn take_in<Y: Layer, O: Sink, D: Sink, L: Ledger>(
 fn run_rest<Y: Layer, O: Sink, D: Sink, L: Ledger>(
     desk: &mut Desk<'_, '_, Y>,
     line: &LineBuffer,
+    has_dump: bool,
     out: &mut O,
     dump: &mut D,
     steps: &mut Steps<L>,
 ) -> Result<(), CommandFault>
     requires kept { KeepsKernel desk.old.memory.view desk.old.file.table.now desk.old.found }
     ensures text { IfSome desk.old.memory.view (λ view.
-        Writes (O.written out.old) (O.written out.new) result (rest_part (text_part (line_said (evidence_in view desk.old.file.table.now))) line.now)) }
+        Writes (O.written out.old) (O.written out.new) result (rest_part (text_part (line_said has_dump (evidence_in view desk.old.file.table.now))) line.now)) }
     ensures dumped { IfSome desk.old.memory.view (λ view.
-        Writes (D.written dump.old) (D.written dump.new) result (rest_part (dump_part (line_said (evidence_in view desk.old.file.table.now))) line.now)) }
+        Writes (D.written dump.old) (D.written dump.new) result (rest_part (dump_part (line_said has_dump (evidence_in view desk.old.file.table.now))) line.now)) }
     ensures memory { IsSameMemory desk.old.memory desk.new.memory }
     ensures kept { KeepsKernel desk.new.memory.view desk.new.file.table.now desk.new.found }
     ensures file { desk.new.file ≡ desk.old.file }
@@ -92,7 +94,7 @@ fn run_rest<Y: Layer, O: Sink, D: Sink, L: Ledger>(
     ensures dump { HasCause (D.faults dump.old) (D.faults dump.new) (IsErrOf result CommandFault.Dump) }
 {
     if let rest @ [_, ..] = line.bytes() {
-        run_line(desk, rest, out, dump, steps)?;
+        run_line(desk, rest, has_dump, out, dump, steps)?;
     }
     Ok(())
 }
@@ -102,13 +104,14 @@ fn run_rest<Y: Layer, O: Sink, D: Sink, L: Ledger>(
 pub(crate) fn run_script<Y: Layer, S: Source, O: Sink, D: Sink, L: Ledger>(
     desk: &mut Desk<'_, '_, Y>,
     script: &mut S,
+    has_dump: bool,
     out: &mut O,
     dump: &mut D,
     steps: &mut Steps<L>,
 ) -> Status
     requires kept { KeepsKernel desk.old.memory.view desk.old.file.table.now desk.old.found }
     ensures ran { IfSome desk.old.memory.view (λ view. IfSome (S.left script.old) (λ bytes.
-        RanOver (line_said (evidence_in view desk.old.file.table.now)) (script_run (line_said (evidence_in view desk.old.file.table.now)) is_quit bytes) bytes (S.left script.new)
+        RanOver (line_said has_dump (evidence_in view desk.old.file.table.now)) (script_run (line_said has_dump (evidence_in view desk.old.file.table.now)) is_quit bytes) bytes (S.left script.new)
         (O.written out.old) (O.written out.new) (D.written dump.old) (D.written dump.new) result)) }
     ensures most { GaveAtMost (most_script + 1) (S.left script.old) (S.left script.new) }
     ensures end { IsScriptEnd result }
@@ -120,9 +123,12 @@ pub(crate) fn run_script<Y: Layer, S: Source, O: Sink, D: Sink, L: Ledger>(
         match take_byte(script) {
             Err(Failed) => return Status::ScriptFault,
             Ok(None) => {
-                return status_after(Status::Ok, run_rest(desk, &line, out, dump, steps));
+                return status_after(
+                    Status::Ok,
+                    run_rest(desk, &line, has_dump, out, dump, steps),
+                );
             }
-            Ok(Some(byte)) => match take_in(desk, &mut line, byte, out, dump, steps) {
+            Ok(Some(byte)) => match take_in(desk, &mut line, byte, has_dump, out, dump, steps) {
                 Ok(Flow::NextLine) => {}
                 Ok(Flow::Quit) => return Status::Ok,
                 Err(fault) => return fault.status(),
@@ -131,7 +137,10 @@ pub(crate) fn run_script<Y: Layer, S: Source, O: Sink, D: Sink, L: Ledger>(
     }
     match take_byte(script) {
         Err(Failed) => Status::ScriptFault,
-        Ok(None) => status_after(Status::Ok, run_rest(desk, &line, out, dump, steps)),
+        Ok(None) => status_after(
+            Status::Ok,
+            run_rest(desk, &line, has_dump, out, dump, steps),
+        ),
         Ok(Some(_)) => status_after_line(
             Status::ScriptTooLong,
             write_whole(out, b"script too long\n"),

@@ -1,6 +1,6 @@
 //! How a run ends.
 ghost use Rattle.std.specs.Prelude.{◌≡◌};
-ghost use Rattle.session.specs.Status.{fault_of_sink, fault_of_plugin, status_of_fault, status_after, status_after_line, number_of_status};
+ghost use Rattle.session.specs.Status.{fault_of_sink, fault_of_dump, fault_of_plugin, status_of_fault, status_after, status_after_line, number_of_status};
 
 use kernel_records::PluginFault;
 use layer_base::SinkFault;
@@ -63,6 +63,17 @@ pub(crate) enum CommandFault {
 }
 
 impl CommandFault {
+    /// What a fault of a writer comes to that writes to the dump.
+    pub(crate) fn of_dump(fault: PluginFault) -> CommandFault
+        ensures { result ≡ fault_of_dump fault }
+    {
+        match fault {
+            PluginFault::Device => CommandFault::Image,
+            PluginFault::Out => CommandFault::Dump,
+            PluginFault::Memory => CommandFault::Memory,
+        }
+    }
+
     pub(crate) fn status(self) -> Status
         ensures { result ≡ status_of_fault self }
     {

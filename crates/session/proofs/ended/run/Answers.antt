@@ -8,6 +8,7 @@ use Rattle.session.specs.Line.{line_said}
 use Rattle.session.specs.Run.{run_of, evidence_of}
 use Rattle.session.specs.Said.{text_part, dump_part}
 use Rattle.session.specs.Status.{IsAnswer}
+use Rattle.session.specs.Words.{name_dump}
 use Rattle.session.specs.declared.status.Status.TheVariants.{Memory}
 use Rattle.session.proofs.Projections.{part-prefix, part-lines, part-exact, ran-given, ran-exact_script, ended}
 use Rattle.session.proofs.Told.{WhereTold-then}
@@ -18,35 +19,35 @@ returns-clause-text g c =
     let words = map string_bytes c.args.words.now in
     WhereTold-then _ (g.J.Source.left c.args.symbols.now) (g.S.Source.left c.args.script.now) _
     (λ symbols left view j s. AppendsPrefix (g.O.Sink.written c.args.out.now) (g.O.Sink.written c.run_over-status.new.out) (run_of words c.args.formats.now view j s).text)
-    c.run_over-status.ensures.ran (λ view j s ran. part-prefix (text_part (line_said (evidence_of c.args.formats.now view j))) (run_of words c.args.formats.now view j s).text ran.given (g.O.Sink.written c.args.out.now) (g.O.Sink.written c.run_over-status.new.out) c.run_over-status.result.0 ran.text)
+    c.run_over-status.ensures.ran (λ view j s ran. part-prefix (text_part (line_said (name_dump words) (evidence_of c.args.formats.now view j))) (run_of words c.args.formats.now view j s).text ran.given (g.O.Sink.written c.args.out.now) (g.O.Sink.written c.run_over-status.new.out) c.run_over-status.result.0 ran.text)
 
 pub returns-clause-dumped : goal.returns-clause-dumped
 returns-clause-dumped g c =
     let words = map string_bytes c.args.words.now in
     WhereTold-then _ (g.J.Source.left c.args.symbols.now) (g.S.Source.left c.args.script.now) _
     (λ symbols left view j s. AppendsPrefix (g.D.Sink.written c.args.dump.now) (g.D.Sink.written c.run_over-status.new.dump) (run_of words c.args.formats.now view j s).dumped)
-    c.run_over-status.ensures.ran (λ view j s ran. part-prefix (dump_part (line_said (evidence_of c.args.formats.now view j))) (run_of words c.args.formats.now view j s).dumped ran.given (g.D.Sink.written c.args.dump.now) (g.D.Sink.written c.run_over-status.new.dump) c.run_over-status.result.0 ran.dumped)
+    c.run_over-status.ensures.ran (λ view j s ran. part-prefix (dump_part (line_said (name_dump words) (evidence_of c.args.formats.now view j))) (run_of words c.args.formats.now view j s).dumped ran.given (g.D.Sink.written c.args.dump.now) (g.D.Sink.written c.run_over-status.new.dump) c.run_over-status.result.0 ran.dumped)
 
 pub returns-clause-script_given : goal.returns-clause-script_given
 returns-clause-script_given g c =
     let words = map string_bytes c.args.words.now in
     WhereTold-then _ (g.J.Source.left c.args.symbols.now) (g.S.Source.left c.args.script.now) _
     (λ symbols left view j s. GavePrefix left (g.S.Source.left c.run_over-status.new.script) (run_of words c.args.formats.now view j s).script_taken)
-    c.run_over-status.ensures.ran (λ view j s ran. ran-given (line_said (evidence_of c.args.formats.now view j)) (run_of words c.args.formats.now view j s) s (g.S.Source.left c.run_over-status.new.script) (g.O.Sink.written c.args.out.now) (g.O.Sink.written c.run_over-status.new.out) (g.D.Sink.written c.args.dump.now) (g.D.Sink.written c.run_over-status.new.dump) c.run_over-status.result.0 ran)
+    c.run_over-status.ensures.ran (λ view j s ran. ran-given (line_said (name_dump words) (evidence_of c.args.formats.now view j)) (run_of words c.args.formats.now view j s) s (g.S.Source.left c.run_over-status.new.script) (g.O.Sink.written c.args.out.now) (g.O.Sink.written c.run_over-status.new.out) (g.D.Sink.written c.args.dump.now) (g.D.Sink.written c.run_over-status.new.dump) c.run_over-status.result.0 ran)
 
 pub returns-clause-whole_lines : goal.returns-clause-whole_lines
 returns-clause-whole_lines g c =
     let words = map string_bytes c.args.words.now in
     WhereTold-then _ (g.J.Source.left c.args.symbols.now) (g.S.Source.left c.args.script.now) _
-    (λ symbols left view j s. HasWholeLines (text_part (line_said (evidence_of c.args.formats.now view j))) left (g.S.Source.left c.run_over-status.new.script) (g.O.Sink.written c.args.out.now) (g.O.Sink.written c.run_over-status.new.out) c.run_over-status.result.0)
-    c.run_over-status.ensures.ran (λ view j s ran. part-lines (text_part (line_said (evidence_of c.args.formats.now view j))) (run_of words c.args.formats.now view j s).text ran.given (g.O.Sink.written c.args.out.now) (g.O.Sink.written c.run_over-status.new.out) c.run_over-status.result.0 ran.text (Some s) (g.S.Source.left c.run_over-status.new.script) ran.consumed)
+    (λ symbols left view j s. HasWholeLines (text_part (line_said (name_dump words) (evidence_of c.args.formats.now view j))) left (g.S.Source.left c.run_over-status.new.script) (g.O.Sink.written c.args.out.now) (g.O.Sink.written c.run_over-status.new.out) c.run_over-status.result.0)
+    c.run_over-status.ensures.ran (λ view j s ran. part-lines (text_part (line_said (name_dump words) (evidence_of c.args.formats.now view j))) (run_of words c.args.formats.now view j s).text ran.given (g.O.Sink.written c.args.out.now) (g.O.Sink.written c.run_over-status.new.out) c.run_over-status.result.0 ran.text (Some s) (g.S.Source.left c.run_over-status.new.script) ran.consumed)
 
 pub returns-clause-whole_dumps : goal.returns-clause-whole_dumps
 returns-clause-whole_dumps g c =
     let words = map string_bytes c.args.words.now in
     WhereTold-then _ (g.J.Source.left c.args.symbols.now) (g.S.Source.left c.args.script.now) _
-    (λ symbols left view j s. HasWholeLines (dump_part (line_said (evidence_of c.args.formats.now view j))) left (g.S.Source.left c.run_over-status.new.script) (g.D.Sink.written c.args.dump.now) (g.D.Sink.written c.run_over-status.new.dump) c.run_over-status.result.0)
-    c.run_over-status.ensures.ran (λ view j s ran. part-lines (dump_part (line_said (evidence_of c.args.formats.now view j))) (run_of words c.args.formats.now view j s).dumped ran.given (g.D.Sink.written c.args.dump.now) (g.D.Sink.written c.run_over-status.new.dump) c.run_over-status.result.0 ran.dumped (Some s) (g.S.Source.left c.run_over-status.new.script) ran.consumed)
+    (λ symbols left view j s. HasWholeLines (dump_part (line_said (name_dump words) (evidence_of c.args.formats.now view j))) left (g.S.Source.left c.run_over-status.new.script) (g.D.Sink.written c.args.dump.now) (g.D.Sink.written c.run_over-status.new.dump) c.run_over-status.result.0)
+    c.run_over-status.ensures.ran (λ view j s ran. part-lines (dump_part (line_said (name_dump words) (evidence_of c.args.formats.now view j))) (run_of words c.args.formats.now view j s).dumped ran.given (g.D.Sink.written c.args.dump.now) (g.D.Sink.written c.run_over-status.new.dump) c.run_over-status.result.0 ran.dumped (Some s) (g.S.Source.left c.run_over-status.new.script) ran.consumed)
 
 pub returns-clause-exact_status : goal.returns-clause-exact_status
 returns-clause-exact_status g c =
@@ -60,21 +61,21 @@ returns-clause-exact_text g c =
     let words = map string_bytes c.args.words.now in
     WhereTold-then _ (g.J.Source.left c.args.symbols.now) (g.S.Source.left c.args.script.now) _
     (λ symbols left view j s. IsAnswer c.run_over-status.result.0 → Appends (g.O.Sink.written c.args.out.now) (g.O.Sink.written c.run_over-status.new.out) (run_of words c.args.formats.now view j s).text)
-    c.run_over-status.ensures.ran (λ view j s ran. part-exact (text_part (line_said (evidence_of c.args.formats.now view j))) (run_of words c.args.formats.now view j s).text ran.given (g.O.Sink.written c.args.out.now) (g.O.Sink.written c.run_over-status.new.out) c.run_over-status.result.0 ran.text)
+    c.run_over-status.ensures.ran (λ view j s ran. part-exact (text_part (line_said (name_dump words) (evidence_of c.args.formats.now view j))) (run_of words c.args.formats.now view j s).text ran.given (g.O.Sink.written c.args.out.now) (g.O.Sink.written c.run_over-status.new.out) c.run_over-status.result.0 ran.text)
 
 pub returns-clause-exact_dumped : goal.returns-clause-exact_dumped
 returns-clause-exact_dumped g c =
     let words = map string_bytes c.args.words.now in
     WhereTold-then _ (g.J.Source.left c.args.symbols.now) (g.S.Source.left c.args.script.now) _
     (λ symbols left view j s. IsAnswer c.run_over-status.result.0 → Appends (g.D.Sink.written c.args.dump.now) (g.D.Sink.written c.run_over-status.new.dump) (run_of words c.args.formats.now view j s).dumped)
-    c.run_over-status.ensures.ran (λ view j s ran. part-exact (dump_part (line_said (evidence_of c.args.formats.now view j))) (run_of words c.args.formats.now view j s).dumped ran.given (g.D.Sink.written c.args.dump.now) (g.D.Sink.written c.run_over-status.new.dump) c.run_over-status.result.0 ran.dumped)
+    c.run_over-status.ensures.ran (λ view j s ran. part-exact (dump_part (line_said (name_dump words) (evidence_of c.args.formats.now view j))) (run_of words c.args.formats.now view j s).dumped ran.given (g.D.Sink.written c.args.dump.now) (g.D.Sink.written c.run_over-status.new.dump) c.run_over-status.result.0 ran.dumped)
 
 pub returns-clause-exact_script : goal.returns-clause-exact_script
 returns-clause-exact_script g c =
     let words = map string_bytes c.args.words.now in
     WhereTold-then _ (g.J.Source.left c.args.symbols.now) (g.S.Source.left c.args.script.now) _
     (λ symbols left view j s. IsAnswer c.run_over-status.result.0 → Consumes left (g.S.Source.left c.run_over-status.new.script) (run_of words c.args.formats.now view j s).script_taken)
-    c.run_over-status.ensures.ran (λ view j s ran. ran-exact_script (line_said (evidence_of c.args.formats.now view j)) (run_of words c.args.formats.now view j s) s (g.S.Source.left c.run_over-status.new.script) (g.O.Sink.written c.args.out.now) (g.O.Sink.written c.run_over-status.new.out) (g.D.Sink.written c.args.dump.now) (g.D.Sink.written c.run_over-status.new.dump) c.run_over-status.result.0 ran)
+    c.run_over-status.ensures.ran (λ view j s ran. ran-exact_script (line_said (name_dump words) (evidence_of c.args.formats.now view j)) (run_of words c.args.formats.now view j s) s (g.S.Source.left c.run_over-status.new.script) (g.O.Sink.written c.args.out.now) (g.O.Sink.written c.run_over-status.new.out) (g.D.Sink.written c.args.dump.now) (g.D.Sink.written c.run_over-status.new.dump) c.run_over-status.result.0 ran)
 
 pub returns-clause-symbols_given : goal.returns-clause-symbols_given
 returns-clause-symbols_given g c =

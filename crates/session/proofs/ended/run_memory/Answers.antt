@@ -15,13 +15,13 @@ use Rattle.session.proofs.ended.run_memory.Goals as goal
 pub returns-in-Err-Failed-clause-ran : goal.returns-in-Err-Failed-clause-ran
 returns-in-Err-Failed-clause-ran g c =
     WhereTold-each (g.Y.Layer.view c.args.image) (g.J.Source.left c.args.symbols.now) (g.S.Source.left c.args.script.now)
-    (λ symbols left view j s. RanOver (line_said (evidence_over (physical view) j)) (memory_run (physical view) j s) s left (g.O.Sink.written c.args.out.now) (g.O.Sink.written c.args.out.now) (g.D.Sink.written c.args.dump.now) (g.D.Sink.written c.args.dump.now) SymbolsFault)
+    (λ symbols left view j s. RanOver (line_said c.args.setup.has_dump (evidence_over (physical view) j)) (memory_run c.args.setup.has_dump (physical view) j s) s left (g.O.Sink.written c.args.out.now) (g.O.Sink.written c.args.out.now) (g.D.Sink.written c.args.dump.now) (g.D.Sink.written c.args.dump.now) SymbolsFault)
     (λ view j s. none-ran _ _ s (g.O.Sink.written c.args.out.now) (g.D.Sink.written c.args.dump.now) SymbolsFault (λ answer. answer))
 
 pub returns-in-Err-Memory-clause-ran : goal.returns-in-Err-Memory-clause-ran
 returns-in-Err-Memory-clause-ran g c =
     WhereTold-each (g.Y.Layer.view c.args.image) (g.J.Source.left c.args.symbols.now) (g.S.Source.left c.args.script.now)
-    (λ symbols left view j s. RanOver (line_said (evidence_over (physical view) j)) (memory_run (physical view) j s) s left (g.O.Sink.written c.args.out.now) (g.O.Sink.written c.args.out.now) (g.D.Sink.written c.args.dump.now) (g.D.Sink.written c.args.dump.now) Memory)
+    (λ symbols left view j s. RanOver (line_said c.args.setup.has_dump (evidence_over (physical view) j)) (memory_run c.args.setup.has_dump (physical view) j s) s left (g.O.Sink.written c.args.out.now) (g.O.Sink.written c.args.out.now) (g.D.Sink.written c.args.dump.now) (g.D.Sink.written c.args.dump.now) Memory)
     (λ view j s. none-ran _ _ s (g.O.Sink.written c.args.out.now) (g.D.Sink.written c.args.dump.now) Memory (λ answer. answer))
 
 pub returns-in-Ok-clause-ran : goal.returns-in-Ok-clause-ran
@@ -34,11 +34,11 @@ returns-in-Ok-clause-ran g c =
     let dump' = g.D.Sink.written c.run_bytes.new.dump in
     let left' = g.S.Source.left c.run_bytes.new.script in
     WhereTold-from (g.Y.Layer.view c.args.image) (g.J.Source.left c.args.symbols.now) (g.S.Source.left c.args.script.now) (λ j. bytes ≡ symbols_taken j)
-    (λ view s. RanOver (line_said (evidence_in view (table_in (table_of bytes)))) (table_run (physical view) (table_of bytes) s) s left' out out' dump dump' end)
-    (λ symbols left view j s. RanOver (line_said (evidence_over (physical view) j)) (memory_run (physical view) j s) s left' out out' dump dump' end)
+    (λ view s. RanOver (line_said c.args.setup.has_dump (evidence_in view (table_in (table_of bytes)))) (table_run c.args.setup.has_dump (physical view) (table_of bytes) s) s left' out out' dump dump' end)
+    (λ symbols left view j s. RanOver (line_said c.args.setup.has_dump (evidence_over (physical view) j)) (memory_run c.args.setup.has_dump (physical view) j s) s left' out out' dump dump' end)
     c.in-Ok.ensures.bytes c.run_bytes.ensures.ran (λ view j s same ran.
-    ran-behind j (line_said (evidence_over (physical view) j)) (table_run (physical view) (table_of j) s) s left' out out' dump dump' end (
-    subst (λ outcome. RanOver (line_said (evidence_over (physical view) j)) outcome s left' out out' dump dump' end) (ap (λ l. table_run (physical view) (table_of l) s) same ∙ table_run-taken (physical view) j s) (
-    subst (λ table. RanOver (line_said (evidence_in view table)) (table_run (physical view) (table_of bytes) s) s left' out out' dump dump' end) (ap (λ l. table_in (table_of l)) same ∙ table_in-taken j) ran
+    ran-behind j (line_said c.args.setup.has_dump (evidence_over (physical view) j)) (table_run c.args.setup.has_dump (physical view) (table_of j) s) s left' out out' dump dump' end (
+    subst (λ outcome. RanOver (line_said c.args.setup.has_dump (evidence_over (physical view) j)) outcome s left' out out' dump dump' end) (ap (λ l. table_run c.args.setup.has_dump (physical view) (table_of l) s) same ∙ table_run-taken c.args.setup.has_dump (physical view) j s) (
+    subst (λ table. RanOver (line_said c.args.setup.has_dump (evidence_in view table)) (table_run c.args.setup.has_dump (physical view) (table_of bytes) s) s left' out out' dump dump' end) (ap (λ l. table_in (table_of l)) same ∙ table_in-taken j) ran
     )
     ))

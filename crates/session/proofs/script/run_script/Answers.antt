@@ -19,7 +19,7 @@ returns-in-Err-clause-ran g c =
     let over = λ (view : View). evidence_in view c.args.desk.now.file.table.now in
     IfSome_then c.args.desk.now.memory.view c.loop.invariant.underway (λ view told.
     IfSome_then (g.S.Source.left c.args.script.now) told (λ bytes underway.
-    script-failed (line_said (over view)) is_quit (line-clips (over view)) bytes _ _ _ _ _ _ c.loop.line c.loop.counter underway (omega arith) c.in-Err.ensures.err))
+    script-failed (line_said c.args.has_dump (over view)) is_quit (line-clips c.args.has_dump (over view)) bytes _ _ _ _ _ _ c.loop.line c.loop.counter underway (omega arith) c.in-Err.ensures.err))
 
 pub returns-in-Ok-None-clause-ran : goal.returns-in-Ok-None-clause-ran
 returns-in-Ok-None-clause-ran g c =
@@ -31,7 +31,7 @@ returns-in-Ok-None-clause-ran g c =
     let dumped = rw (c.loop.invariant.file, c.loop.invariant.memory.same_view) at c.run_rest.ensures.dumped in
     rw c.status_after.ensures (IfSome-three c.args.desk.now.memory.view c.loop.invariant.underway text dumped (λ view told printed dumped.
     IfSome_then (g.S.Source.left c.args.script.now) told (λ bytes underway.
-    script-ended (line_said (over view)) is_quit (line-clips (over view)) bytes _ _ _ _ _ _ c.loop.line c.loop.counter underway (g.O.Sink.written c.run_rest.new.out) (g.D.Sink.written c.run_rest.new.dump) c.run_rest.result (omega arith) taken end printed dumped)))
+    script-ended (line_said c.args.has_dump (over view)) is_quit (line-clips c.args.has_dump (over view)) bytes _ _ _ _ _ _ c.loop.line c.loop.counter underway (g.O.Sink.written c.run_rest.new.out) (g.D.Sink.written c.run_rest.new.dump) c.run_rest.result (omega arith) taken end printed dumped)))
 
 pub returns-in-Err-take_in-clause-ran : goal.returns-in-Err-take_in-clause-ran
 returns-in-Err-take_in-clause-ran g c =
@@ -41,7 +41,7 @@ returns-in-Err-take_in-clause-ran g c =
     let dumped = rw (c.loop.invariant.file, c.loop.invariant.memory.same_view) at c.in-Err-take_in.ensures.dumped in
     rw c.status.ensures (IfSome-three c.args.desk.now.memory.view c.loop.invariant.underway text dumped (λ view told printed dumped.
     IfSome_then (g.S.Source.left c.args.script.now) told (λ bytes underway.
-    turn-failed (line_said (over view)) is_quit (line-clips (over view)) bytes _ _ _ _ _ _ c.loop.line c.loop.counter underway c.in-Ok-Some.byte c.in-Err-take_in.fault (g.O.Sink.written c.take_in.new.out) (g.D.Sink.written c.take_in.new.dump) c.loop-test.true taken printed dumped)))
+    turn-failed (line_said c.args.has_dump (over view)) is_quit (line-clips c.args.has_dump (over view)) bytes _ _ _ _ _ _ c.loop.line c.loop.counter underway c.in-Ok-Some.byte c.in-Err-take_in.fault (g.O.Sink.written c.take_in.new.out) (g.D.Sink.written c.take_in.new.dump) c.loop-test.true taken printed dumped)))
 
 pub loop-preserved : goal.loop-preserved
 loop-preserved g c =
@@ -52,7 +52,7 @@ loop-preserved g c =
     record {
       underway = IfSome-three c.args.desk.now.memory.view c.loop.invariant.underway text dumped (λ view told printed dumped.
           IfSome_then (g.S.Source.left c.args.script.now) told (λ bytes underway.
-          Underway-next (line_said (over view)) is_quit (line-clips (over view)) bytes _ _ _ _ _ _ _ _ c.loop.line c.take_in.new.line c.loop.counter c.in-Ok-Some.byte underway taken printed dumped c.in-Ok-NextLine.ensures.line (sym c.in-Ok-NextLine.field-0-is ∙ c.in-Ok-NextLine.ensures.flow)));
+          Underway-next (line_said c.args.has_dump (over view)) is_quit (line-clips c.args.has_dump (over view)) bytes _ _ _ _ _ _ _ _ c.loop.line c.take_in.new.line c.loop.counter c.in-Ok-Some.byte underway taken printed dumped c.in-Ok-NextLine.ensures.line (sym c.in-Ok-NextLine.field-0-is ∙ c.in-Ok-NextLine.ensures.flow)));
       most = gave_more c.loop.counter 1 (c.loop.counter + 1) _ _ _ c.loop.invariant.most c.take_byte.ensures.most (omega arith);
       memory = IsSameMemory-trans _ _ _ c.loop.invariant.memory c.take_in.ensures.memory;
       kept = c.take_in.ensures.kept;
@@ -67,7 +67,7 @@ returns-in-Err-take_byte-clause-ran g c =
     let over = λ (view : View). evidence_in view c.args.desk.now.file.table.now in
     IfSome_then c.args.desk.now.memory.view c.loop.invariant.underway (λ view told.
     IfSome_then (g.S.Source.left c.args.script.now) told (λ bytes underway.
-    script-failed (line_said (over view)) is_quit (line-clips (over view)) bytes _ _ _ _ _ _ c.loop.line c.loop.counter underway (omega arith) c.in-Err-take_byte.ensures.err))
+    script-failed (line_said c.args.has_dump (over view)) is_quit (line-clips c.args.has_dump (over view)) bytes _ _ _ _ _ _ c.loop.line c.loop.counter underway (omega arith) c.in-Err-take_byte.ensures.err))
 
 pub returns-in-Ok-None-take_byte-clause-ran : goal.returns-in-Ok-None-take_byte-clause-ran
 returns-in-Ok-None-take_byte-clause-ran g c =
@@ -80,7 +80,7 @@ returns-in-Ok-None-take_byte-clause-ran g c =
     let dumped = rw (c.loop.invariant.file, c.loop.invariant.memory.same_view) at rest.ensures.dumped in
     rw c.status_after-in-Ok-None-take_byte.ensures (IfSome-three c.args.desk.now.memory.view c.loop.invariant.underway text dumped (λ view told printed dumped.
     IfSome_then (g.S.Source.left c.args.script.now) told (λ bytes underway.
-    script-ended (line_said (over view)) is_quit (line-clips (over view)) bytes _ _ _ _ _ _ c.loop.line c.loop.counter underway (g.O.Sink.written rest.new.out) (g.D.Sink.written rest.new.dump) rest.result (omega arith) taken end printed dumped)))
+    script-ended (line_said c.args.has_dump (over view)) is_quit (line-clips c.args.has_dump (over view)) bytes _ _ _ _ _ _ c.loop.line c.loop.counter underway (g.O.Sink.written rest.new.out) (g.D.Sink.written rest.new.dump) rest.result (omega arith) taken end printed dumped)))
 
 pub returns-in-Ok-Some-take_byte-clause-ran : goal.returns-in-Ok-Some-take_byte-clause-ran
 returns-in-Ok-Some-take_byte-clause-ran g c =
@@ -90,7 +90,7 @@ returns-in-Ok-Some-take_byte-clause-ran g c =
     let most : c.loop.counter ≡ 16777216 = omega arith in
     rw c.status_after_line.ensures (IfSome_then c.args.desk.now.memory.view c.loop.invariant.underway (λ view told.
     IfSome_then (g.S.Source.left c.args.script.now) told (λ bytes underway.
-    script-too_long (line_said (over view)) is_quit (line-clips (over view)) bytes _ _ _ _ _ _ c.loop.line c.loop.counter underway byte (g.O.Sink.written c.write_whole.new.out) (line_result c.write_whole.result) most taken (Writes-line _ _ c.write_whole.result _ c.write_whole.ensures.bytes))))
+    script-too_long (line_said c.args.has_dump (over view)) is_quit (line-clips c.args.has_dump (over view)) bytes _ _ _ _ _ _ c.loop.line c.loop.counter underway byte (g.O.Sink.written c.write_whole.new.out) (line_result c.write_whole.result) most taken (Writes-line _ _ c.write_whole.result _ c.write_whole.ensures.bytes))))
 
 pub returns-in-Ok-Quit-clause-ran : goal.returns-in-Ok-Quit-clause-ran
 returns-in-Ok-Quit-clause-ran g c =
@@ -100,4 +100,4 @@ returns-in-Ok-Quit-clause-ran g c =
     let dumped = rw (c.loop.invariant.file, c.loop.invariant.memory.same_view) at c.in-Ok-Quit.ensures.dumped in
     IfSome-three c.args.desk.now.memory.view c.loop.invariant.underway text dumped (λ view told printed dumped.
     IfSome_then (g.S.Source.left c.args.script.now) told (λ bytes underway.
-    script-quit (line_said (over view)) is_quit (line-clips (over view)) bytes _ _ _ _ _ _ c.loop.line c.loop.counter underway c.in-Ok-Some.byte (g.O.Sink.written c.take_in.new.out) (g.D.Sink.written c.take_in.new.dump) c.loop-test.true taken printed dumped (sym c.in-Ok-Quit.field-0-is ∙ c.in-Ok-Quit.ensures.flow)))
+    script-quit (line_said c.args.has_dump (over view)) is_quit (line-clips c.args.has_dump (over view)) bytes _ _ _ _ _ _ c.loop.line c.loop.counter underway c.in-Ok-Some.byte (g.O.Sink.written c.take_in.new.out) (g.D.Sink.written c.take_in.new.dump) c.loop-test.true taken printed dumped (sym c.in-Ok-Quit.field-0-is ∙ c.in-Ok-Quit.ensures.flow)))

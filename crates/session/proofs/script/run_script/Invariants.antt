@@ -11,7 +11,7 @@ use Rattle.session.proofs.script.run_script.Given as goal
 abbrev pub invariant-loop : goal.invariant-loop
 invariant-loop g l = record {
   underway : IfSome l.fn.desk.memory.view (λ view. IfSome (g.S.Source.left l.fn.script) (λ bytes.
-      Underway (line_said (evidence_in view l.fn.desk.file.table.now)) is_quit bytes (g.S.Source.left l.script) (g.O.Sink.written l.fn.out) (g.O.Sink.written l.out) (g.D.Sink.written l.fn.dump) (g.D.Sink.written l.dump) l.line l.counter));
+      Underway (line_said l.has_dump (evidence_in view l.fn.desk.file.table.now)) is_quit bytes (g.S.Source.left l.script) (g.O.Sink.written l.fn.out) (g.O.Sink.written l.out) (g.D.Sink.written l.fn.dump) (g.D.Sink.written l.dump) l.line l.counter));
   most : GaveAtMost l.counter (g.S.Source.left l.fn.script) (g.S.Source.left l.script);
   memory : IsSameMemory l.fn.desk.memory l.desk.memory;
   kept : KeepsKernel l.desk.memory.view l.desk.file.table.now l.desk.found;

@@ -1,2 +1,0 @@
-mod HandedOn
-mod ReadAhead
