@@ -1,4 +1,4 @@
-//! Commands, spaces and addresses that no run carries out yet.
+//! What lines ask for: commands, spaces and addresses.
 use anyhow::Result;
 use command_words::parse_line;
 use std::alloc::Global;
