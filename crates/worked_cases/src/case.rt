@@ -6,20 +6,22 @@ use std::alloc::Global;
 /// What sixteen bytes a case has for an image that says nothing of one.
 const DIGITS: &str = "0123456789ABCDEF";
 
-/// A line of a script, with its newline, and the text that it prints.
+/// A line of a script, with its newline, the text that it prints and the bytes that it dumps.
 #[derive(Drop)]
 pub(crate) struct ScriptLine {
     pub(crate) bytes: Vec<u8>,
     pub(crate) text: Vec<u8>,
+    pub(crate) dumped: Vec<u8>,
 }
 
-/// The objects whose calls fail in turn.
+/// The objects whose calls fail in turn, each with how many calls lie from one that fails to the next.
 #[derive(Clone, Copy)]
 pub(crate) struct Sweeps {
-    pub(crate) image: bool,
-    pub(crate) symbols: bool,
-    pub(crate) script: bool,
-    pub(crate) room: bool,
+    pub(crate) image: Option<u64>,
+    pub(crate) symbols: Option<u64>,
+    pub(crate) script: Option<u64>,
+    pub(crate) room: Option<u64>,
+    pub(crate) dump: Option<u64>,
 }
 
 /// A case, as its block says it.
@@ -27,8 +29,8 @@ pub(crate) struct Sweeps {
 pub(crate) struct Case {
     /// The image, where the block says anything of it.
     pub(crate) image: Option<Image>,
-    /// The words, where the block says them.
-    pub(crate) words: Option<Vec<String>>,
+    /// The lists of words that the block says, each of which is tried.
+    pub(crate) words: Vec<Vec<String>>,
     /// The symbol file, in which each `@` stands for a value. Without one it is `{}`.
     pub(crate) symbols: Option<Vec<u8>>,
     pub(crate) values: Vec<Vec<u8>>,
@@ -52,7 +54,7 @@ impl Case {
     pub(crate) fn new(alloc: Global) -> Case {
         Case {
             image: None,
-            words: None,
+            words: Vec::new(alloc),
             symbols: None,
             values: Vec::new(alloc),
             front: Vec::new(alloc),
@@ -63,10 +65,11 @@ impl Case {
             plan: Plan::whole(),
             cuts: Vec::new(alloc),
             sweeps: Sweeps {
-                image: false,
-                symbols: false,
-                script: false,
-                room: false,
+                image: None,
+                symbols: None,
+                script: None,
+                room: None,
+                dump: None,
             },
             is_each: false,
             is_wrong: false,

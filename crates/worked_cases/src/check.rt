@@ -5,7 +5,7 @@ use crate::image::Image;
 use crate::run::Inputs;
 use crate::script::Script;
 use crate::sweeps::sweep;
-use crate::way::{Change, Way};
+use crate::way::Way;
 use anyhow::Result;
 use std::alloc::{AllocError, Global};
 use std::slice;
@@ -16,18 +16,51 @@ const DIGITS: &[u8] = b"0123456789ABCDEF";
 /// Runs a case in all its ways.
 pub(crate) fn check_case(alloc: Global, case: &Case) -> Result<Checker> {
     let mut checker = Checker::new(alloc);
+    if case.words.is_empty() {
+        let words = plain_words(alloc)?;
+        check_words(alloc, &mut checker, case, &words, Way::plain())?;
+    }
+    for (place, words) in case.words.iter().enumerate() {
+        let way = Way {
+            words: place.saturating_add(1),
+            ..Way::plain()
+        };
+        check_words(alloc, &mut checker, case, words, way)?;
+    }
+    Ok(checker)
+}
+
+fn plain_words(alloc: Global) -> Result<Vec<String>, AllocError> {
+    let mut words = Vec::new(alloc);
+    words.push(String::from_str(alloc, "image")?)?;
+    words.push(String::from_str(alloc, "symbols")?)?;
+    Ok(words)
+}
+
+// All symbol files with these words.
+fn check_words(
+    alloc: Global,
+    checker: &mut Checker,
+    case: &Case,
+    words: &[String],
+    way: Way,
+) -> Result<()> {
     let template = match &case.symbols {
         Some(symbols) => symbols.as_slice(),
         None => b"{}",
     };
     if case.values.is_empty() {
-        check_symbols(alloc, &mut checker, case, template, 0)?;
+        check_symbols(alloc, checker, case, (words, template), way)?;
     }
     for (place, value) in case.values.iter().enumerate() {
         let symbols = with_value(alloc, template, value)?;
-        check_symbols(alloc, &mut checker, case, &symbols, place.saturating_add(1))?;
+        let way = Way {
+            value: place.saturating_add(1),
+            ..way
+        };
+        check_symbols(alloc, checker, case, (words, &symbols), way)?;
     }
-    Ok(checker)
+    Ok(())
 }
 
 // The bytes of a symbol file with a value in the place of each `@`.
@@ -42,19 +75,14 @@ fn with_value(alloc: Global, template: &[u8], value: &[u8]) -> Result<Vec<u8>, A
     Ok(bytes)
 }
 
-// All cuts over one symbol file.
+// All cuts with these words over one symbol file.
 fn check_symbols(
     alloc: Global,
     checker: &mut Checker,
     case: &Case,
-    symbols: &[u8],
-    value: usize,
+    (words, symbols): (&[String], &[u8]),
+    way: Way,
 ) -> Result<()> {
-    let plain = plain_words(alloc)?;
-    let words = match &case.words {
-        Some(words) => words,
-        None => &plain,
-    };
     let image = match &case.image {
         Some(image) => image.file(),
         None => DIGITS,
@@ -65,18 +93,12 @@ fn check_symbols(
         symbols,
         script: &[],
     };
-    check_cut(alloc, checker, case, inputs, (value, case.plan.cut))?;
+    let cut = case.plan.cut;
+    check_cut(alloc, checker, case, inputs, Way { cut, ..way })?;
     for cut in &case.cuts {
-        check_cut(alloc, checker, case, inputs, (value, *cut))?;
+        check_cut(alloc, checker, case, inputs, Way { cut: *cut, ..way })?;
     }
     Ok(())
-}
-
-fn plain_words(alloc: Global) -> Result<Vec<String>, AllocError> {
-    let mut words = Vec::new(alloc);
-    words.push(String::from_str(alloc, "image")?)?;
-    words.push(String::from_str(alloc, "symbols")?)?;
-    Ok(words)
 }
 
 // The whole script with its sweeps, and each line alone where the case says so.
@@ -85,15 +107,9 @@ fn check_cut(
     checker: &mut Checker,
     case: &Case,
     inputs: Inputs<'_>,
-    (value, cut): (usize, usize),
+    way: Way,
 ) -> Result<()> {
     let script = Script::of(alloc, &case.front, &case.lines, &case.rest)?;
-    let way = Way {
-        value,
-        line: 0,
-        cut,
-        change: Change::Nothing,
-    };
     let setting = setting_of(case, inputs, &script, way);
     let whole = checker.expect_whole(&setting)?;
     sweep(checker, &setting, &whole, case.sweeps)?;

@@ -30,6 +30,19 @@ impl<'a> Setting<'a> {
     }
 }
 
+/// How many dumped bytes are told.
+const MOST_DUMPED: usize = 64;
+
+// How many bytes there are, and the first of them in hexadecimal digits.
+fn hex_of(alloc: Global, bytes: &[u8]) -> Result<String> {
+    let mut text = format!(in alloc; "{} bytes", bytes.len())?;
+    for byte in bytes.iter().take(MOST_DUMPED) {
+        let cell = format!(in alloc; " {byte:02x}")?;
+        text.push_str(cell.as_str())?;
+    }
+    Ok(text)
+}
+
 /// How many runs were made, and what was found.
 #[derive(Drop)]
 pub(crate) struct Checker {
@@ -57,12 +70,12 @@ impl Checker {
         let seen = self.run(setting)?;
         let way = setting.way;
         self.expect_text(way, &setting.script.text, &seen.text)?;
+        self.expect_dumped(way, &setting.script.dumped, &seen.dumped)?;
         self.expect_number(way, "status", setting.status as usize, seen.status as usize)?;
         let left = setting.script.left;
         self.expect_number(way, "left of the script", left, seen.script_left)?;
         let left = setting.symbols_left;
         self.expect_number(way, "left of the symbol file", left, seen.symbols_left)?;
-        self.expect_number(way, "dumped bytes", 0, seen.dumped)?;
         Ok(seen)
     }
 
@@ -85,6 +98,15 @@ impl Checker {
             let wanted = String::from_utf8_lossy(self.alloc, wanted)?;
             let seen = String::from_utf8_lossy(self.alloc, seen)?;
             let what = format!(in self.alloc; "text: wanted\n{wanted}\ngot\n{seen}")?;
+            self.tell(way, what.as_str())?;
+        }
+        Ok(())
+    }
+
+    pub(crate) fn expect_dumped(&mut self, way: Way, wanted: &[u8], seen: &[u8]) -> Result<()> {
+        if wanted != seen {
+            let (wanted, seen) = (hex_of(self.alloc, wanted)?, hex_of(self.alloc, seen)?);
+            let what = format!(in self.alloc; "dumped bytes: wanted {wanted}, got {seen}")?;
             self.tell(way, what.as_str())?;
         }
         Ok(())

@@ -31,6 +31,14 @@ impl Image {
         }
     }
 
+    /// The image of a whole file, with its bytes by their places in it.
+    pub(crate) fn of_file(alloc: Global, bytes: &[u8]) -> Result<Image> {
+        Ok(Image {
+            file: bytes.to_vec(alloc)?,
+            ranges: Vec::new(alloc),
+        })
+    }
+
     pub(crate) fn file(&self) -> &[u8] {
         &self.file
     }

@@ -4,7 +4,7 @@ ghost use Rattle.std.specs.Prelude.{◌≡◌, ◌<◌};
 use crate::objects::{CountedDevice, CountedSource};
 use file_layer::FileLayer;
 use layer_base::{Kind, Layer, MemDevice, MemSink, MemSource, Source, Steps};
-use session::run;
+use session::program;
 use std::alloc::{AllocError, Global};
 use std::cell::Cell;
 use std::marker::Brand;
@@ -23,14 +23,15 @@ pub(crate) struct Inputs<'a> {
     pub(crate) script: &'a [u8],
 }
 
-/// How its objects behave: the call of each that fails, the bytes that the output has room for, and the most bytes that
-/// any of them gives or takes a call.
+/// How its objects behave: the call of each that fails, the bytes that the output and the dump have room for, and the most
+/// bytes that any of them gives or takes a call.
 #[derive(Clone, Copy)]
 pub(crate) struct Plan {
     pub(crate) image_fails: Option<u64>,
     pub(crate) symbols_fails: Option<u64>,
     pub(crate) script_fails: Option<u64>,
     pub(crate) room: Option<u64>,
+    pub(crate) dump_room: Option<u64>,
     pub(crate) cut: usize,
 }
 
@@ -42,6 +43,7 @@ impl Plan {
             symbols_fails: None,
             script_fails: None,
             room: None,
+            dump_room: None,
             cut: UNCUT,
         }
     }
@@ -52,7 +54,7 @@ impl Plan {
 pub(crate) struct Seen {
     pub(crate) status: u8,
     pub(crate) text: Vec<u8>,
-    pub(crate) dumped: usize,
+    pub(crate) dumped: Vec<u8>,
     pub(crate) script_left: usize,
     pub(crate) symbols_left: usize,
     pub(crate) image_calls: u64,
@@ -124,9 +126,9 @@ fn run_with<L: Ledger>(
     let mut symbols = source_of(alloc, inputs.symbols, plan.symbols_fails, plan.cut)?;
     let mut script = source_of(alloc, inputs.script, plan.script_fails, plan.cut)?;
     let mut out = MemSink::new(alloc, plan.room, plan.cut.max(1));
-    let mut dump = MemSink::new(alloc, None, plan.cut.max(1));
+    let mut dump = MemSink::new(alloc, plan.dump_room, plan.cut.max(1));
     let mut steps = Steps::<L>::new(blank);
-    let ended = run(
+    let ended = program(
         alloc,
         inputs.words,
         image,
@@ -142,7 +144,7 @@ fn run_with<L: Ledger>(
     Ok(Seen {
         status: ended.status.number(),
         text: out.bytes().to_vec(alloc)?,
-        dumped: dump.bytes().len(),
+        dumped: dump.bytes().to_vec(alloc)?,
         script_left: count_left(&mut script),
         symbols_left: count_left(&mut symbols),
         image_calls: image_calls.get(),

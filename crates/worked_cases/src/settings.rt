@@ -7,6 +7,7 @@ use crate::library::Library;
 use crate::numbers::{first_word, number_of, size_of};
 use crate::rows::add_rows;
 use anyhow::{Context, Result, bail, ensure};
+use image_maker::make;
 use std::alloc::Global;
 use std::rt::Files;
 
@@ -29,7 +30,7 @@ pub(crate) fn case_of<R: Files + Alloc<A = Global>>(
     Ok(case)
 }
 
-// Takes in one line: of the script, of its text, or a setting before both.
+// Takes in one line: of the script, of what it prints or dumps, or a setting before both.
 fn apply<R: Files + Alloc<A = Global>>(
     rt: &R,
     library: &Library,
@@ -42,8 +43,11 @@ fn apply<R: Files + Alloc<A = Global>>(
         ">" => {
             ensure!(case.rest.is_empty(), "a line behind one that is left");
             let bytes = line_bytes(alloc, rest)?;
-            let text = Vec::new(alloc);
-            case.lines.push(ScriptLine { bytes, text })?;
+            case.lines.push(ScriptLine {
+                bytes,
+                text: Vec::new(alloc),
+                dumped: Vec::new(alloc),
+            })?;
             Ok(())
         }
         "!" => {
@@ -52,6 +56,7 @@ fn apply<R: Files + Alloc<A = Global>>(
             Ok(())
         }
         "*" => add_rows(alloc, text_of(case), rest),
+        "dumps" => add_dump(alloc, case, rest),
         _ if !case.lines.is_empty() || !case.rest.is_empty() => add_line(text_of(case), text),
         "prints" => add_line(&mut case.front, rest),
         _ => set(rt, library, case, word, rest),
@@ -76,6 +81,14 @@ fn text_of(case: &mut Case) -> &mut Vec<u8> {
 fn add_line(text: &mut Vec<u8>, line: &str) -> Result<()> {
     text.extend_from_slice(line.as_bytes())?;
     text.push(b'\n')?;
+    Ok(())
+}
+
+// Bytes that the last line dumps.
+fn add_dump(alloc: Global, case: &mut Case, text: &str) -> Result<()> {
+    let bytes = bytes_of(alloc, text)?;
+    let line = case.lines.last_mut().context("no line that dumps")?;
+    line.dumped.extend_from_slice(&bytes)?;
     Ok(())
 }
 
@@ -118,13 +131,14 @@ fn set<R: Files + Alloc<A = Global>>(
     Ok(())
 }
 
-// The symbol file, the words, and what is wanted. It answers whether the word is one of these.
+// A made image, the symbol file, the words, and what is wanted. It answers whether the word is one of these.
 fn set_input(alloc: Global, case: &mut Case, word: &str, rest: &str) -> Result<bool> {
     match word {
         "symbols" => add_symbols(alloc, case, rest)?,
         "replace" => replace_symbols(alloc, case, rest)?,
         "value" => case.values.push(bytes_of(alloc, rest)?)?,
-        "words" => case.words = Some(words_of_line(alloc, rest)?),
+        "made" => set_made(alloc, case, number_of(rest)?)?,
+        "words" => case.words.push(words_of_line(alloc, rest)?)?,
         "status" => case.status = u8::try_from(number_of(rest)?).ok().context("no status")?,
         "left" => case.symbols_left = Some(size_of(rest)?),
         "no" if rest == "newline" => case.has_last_newline = false,
@@ -146,17 +160,35 @@ fn set_run(case: &mut Case, word: &str, rest: &str) -> Result<bool> {
         "sweep" => set_sweep(case, rest)?,
         "fails" => set_fails(case, rest)?,
         "room" => case.plan.room = Some(number_of(rest)?),
+        "dump-room" => case.plan.dump_room = Some(number_of(rest)?),
         _ => return Ok(false),
     }
     Ok(true)
 }
 
-fn set_sweep(case: &mut Case, object: &str) -> Result<()> {
+// Takes the image and the symbol file of a made image.
+fn set_made(alloc: Global, case: &mut Case, number: u64) -> Result<()> {
+    if number < 1 || number > 64 {
+        bail!("no made image {number}");
+    }
+    let made = make(alloc, number)?;
+    case.image = Some(Image::of_file(alloc, made.image.items())?);
+    case.symbols = Some(made.symbols.items().to_vec(alloc)?);
+    Ok(())
+}
+
+fn set_sweep(case: &mut Case, rest: &str) -> Result<()> {
+    let (object, step) = first_word(rest);
+    let step = match step {
+        "" => 1,
+        step => number_of(step)?,
+    };
     match object {
-        "image" => case.sweeps.image = true,
-        "symbols" => case.sweeps.symbols = true,
-        "script" => case.sweeps.script = true,
-        "room" => case.sweeps.room = true,
+        "image" => case.sweeps.image = Some(step),
+        "symbols" => case.sweeps.symbols = Some(step),
+        "script" => case.sweeps.script = Some(step),
+        "room" => case.sweeps.room = Some(step),
+        "dump" => case.sweeps.dump = Some(step),
         _ => bail!("no object: {object}"),
     }
     Ok(())

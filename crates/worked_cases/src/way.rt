@@ -2,7 +2,7 @@
 use crate::run::Plan;
 use std::fmt;
 
-/// A call that fails, or an output with little room.
+/// A call that fails, or an output or a dump with little room.
 #[derive(Clone, Copy)]
 pub(crate) enum Change {
     Nothing,
@@ -10,6 +10,7 @@ pub(crate) enum Change {
     SymbolsFail(u64),
     ScriptFails(u64),
     Room(u64),
+    DumpRoom(u64),
 }
 
 impl Change {
@@ -22,6 +23,7 @@ impl Change {
             Change::SymbolsFail(call) => plan.symbols_fails = Some(call),
             Change::ScriptFails(call) => plan.script_fails = Some(call),
             Change::Room(room) => plan.room = Some(room),
+            Change::DumpRoom(room) => plan.dump_room = Some(room),
         }
         plan
     }
@@ -35,6 +37,7 @@ impl fmt::Display for Change {
             Change::SymbolsFail(call) => write!(f, "call {call} of the symbol file fails"),
             Change::ScriptFails(call) => write!(f, "call {call} of the script fails"),
             Change::Room(room) => write!(f, "room for {room}"),
+            Change::DumpRoom(room) => write!(f, "room for {room} dumped bytes"),
         }
     }
 }
@@ -42,6 +45,8 @@ impl fmt::Display for Change {
 /// One of the ways to run a case.
 #[derive(Clone, Copy)]
 pub(crate) struct Way {
+    /// Which of the lists of words is given, from 1; 0 where the case has none.
+    pub(crate) words: usize,
     /// Which of the values stands in the symbol file, from 1.
     pub(crate) value: usize,
     /// Which line is run alone, from 1; 0 where all are run.
@@ -52,6 +57,17 @@ pub(crate) struct Way {
 }
 
 impl Way {
+    /// The whole script, uncut.
+    pub(crate) fn plain() -> Way {
+        Way {
+            words: 0,
+            value: 0,
+            line: 0,
+            cut: 0,
+            change: Change::Nothing,
+        }
+    }
+
     /// The same with a change.
     pub(crate) fn with(self, change: Change) -> Way {
         Way { change, ..self }
@@ -60,7 +76,11 @@ impl Way {
 
 impl fmt::Display for Way {
     fn fmt<W: fmt::Write>(&self, f: &mut fmt::Formatter<W>) -> fmt::Result {
-        let (value, line, cut, change) = (self.value, self.line, self.cut, self.change);
-        write!(f, "value {value}, line {line}, cut {cut}, {change}")
+        let (words, value, line) = (self.words, self.value, self.line);
+        let (cut, change) = (self.cut, self.change);
+        write!(
+            f,
+            "words {words}, value {value}, line {line}, cut {cut}, {change}"
+        )
     }
 }
