@@ -1,6 +1,6 @@
 -- The addresses of a block, and those that it is mapped to, are below 2 ^ 64.
-use Rattle.std.proofs.Common.{◌≡◌, ℕ, zero, suc, ◌+◌, ◌-◌, ◌%◌, ◌^◌, ◌<◌, ◌≤◌, Bool, true, false, Option, None, Some, refl, subst, arith}
-use Rattle.std.specs.Prelude.{IfSome}
+use Rattle.std.proofs.Common.{◌≡◌, ℕ, zero, suc, ◌+◌, ◌-◌, ◌%◌, ◌^◌, ◌<◌, ◌≤◌, Bool, true, false, Option, None, Some, Result, Ok, Err, refl, subst, arith}
+use Rattle.std.specs.Prelude.{IfOk, IfSome}
 use Rattle.layer_base.specs.AddressSpace.{AddressSpace}
 use Rattle.layer_base.specs.Mapped.{block_size, Holds, IsAligned}
 use Rattle.layer_base.specs.declared.space.Levels.TheVariants.{Four, Five}
@@ -44,3 +44,9 @@ fits space at run top holds aligned untabled = by (asks_tables space at) refl
     by : (asks : Bool) → asks_tables space at ≡ asks → FitsMemory run
     by true asks = fits-aligned run at top holds (aligned asks)
     by false none = fits-untabled space at run none (untabled none (λ a. None))
+
+-- and what a walk came to
+pub fits-walked : {E : Type 0} (space : Space) (at : ℕ) (result : Result Mapped E) → at < 2 ^ 64 → IfOk result (λ run. Holds run at) → (asks_tables space at ≡ true → IfOk result IsAligned)
+    → (asks_tables space at ≡ false → IfOk result (λ run. (memory : AddressSpace) → block_of memory space at ≡ run)) → IfOk result FitsMemory
+fits-walked space at (Ok run) top holds aligned untabled = fits space at run top holds aligned untabled
+fits-walked space at (Err fault) top holds aligned untabled = tt

@@ -5,7 +5,7 @@ ghost use Rattle.layer_base.specs.Counts.{HasCause};
 ghost use Rattle.layer_base.specs.SameLayer.{IsSameLayer};
 ghost use Rattle.layer_base.specs.View.{physical};
 ghost use Rattle.intel_paging.specs.Walk.{IsBlock, asks_tables, levels_of};
-ghost use Rattle.space_memory.specs.Kept.{IsHeld, IsHeldHole, IsTrueCache};
+ghost use Rattle.space_memory.specs.Kept.{IsHeld, IsHeldHole, IsTrueCache, KeepsRuns};
 ghost use Rattle.space_memory.specs.Through.{FitsMemory};
 
 use intel_paging::{asks_tables, walk};
@@ -28,8 +28,9 @@ pub(crate) fn run_around<Y: Layer, L: Ledger>(
     ensures block { IfSome (Y.view phys.old) (λ view. IfOk result (IsBlock (physical view) space)) }
     ensures cache { IsTrueCache (Y.view phys.old) cache.new }
     ensures capacity { cache.new.capacity ≡ cache.old.capacity }
+    ensures runs { KeepsRuns space at cache.old cache.new }
     ensures kept { asks_tables space at ≡ true → 0 < cache.old.capacity → IfOk result (λ _. IsHeld space at cache.new) }
-    ensures hole { IsHeldHole space at cache.old → IfOk result (λ run. run.to ≡ None) }
+    ensures hole { asks_tables space at ≡ true → IsHeldHole space at cache.old → IfOk result (λ run. run.to ≡ None) }
     ensures held { IsHeld space at cache.old → steps.new ≡ steps.old }
     ensures least_steps { steps.old ≤ steps.new }
     ensures most_steps { steps.new ≤ steps.old + levels_of space }
@@ -38,12 +39,13 @@ pub(crate) fn run_around<Y: Layer, L: Ledger>(
     ensures layer { IsSameLayer Y.view Y.kind Y.faults Y.calls phys.old phys.new }
     ensures cause { HasCause (Y.faults phys.old) (Y.faults phys.new) (IsErr result) }
 {
+    if !asks_tables(space, at) {
+        return walk(phys, space, at, steps);
+    }
     if let Some(run) = cache.look(space, at) {
         return Ok(run);
     }
     let run = walk(phys, space, at, steps)?;
-    if asks_tables(space, at) {
-        cache.keep(space, run);
-    }
+    cache.keep(space, run);
     Ok(run)
 }

@@ -8,7 +8,7 @@ ghost use Rattle.intel_paging.specs.Walk.{asks_tables, levels_of};
 ghost use Rattle.intel_paging.specs.Word.{word};
 ghost use Rattle.space_memory.specs.Hole.{IsGot, IsGotWithin};
 ghost use Rattle.space_memory.specs.InSpace.{in_space};
-ghost use Rattle.space_memory.specs.Kept.{IsHeld, IsHeldHole, cache_in};
+ghost use Rattle.space_memory.specs.Kept.{IsHeld, IsHeldHole, KeepsRuns, cache_in};
 ghost use Rattle.space_memory.specs.State.{IsSameMemory};
 
 use crate::around::run_around;
@@ -97,7 +97,8 @@ impl<Y: Layer> Memory<Y> {
         ensures one_call { asks_tables space at ≡ false → self.new.calls ≤ self.old.calls + 1 }
         ensures held_step { IsHeld space at (cache_in self.old) → steps.new ≡ steps.old + 1 }
         ensures held_call { IsHeld space at (cache_in self.old) → self.new.calls ≤ self.old.calls + 1 }
-        ensures held_hole { IsHeldHole space at (cache_in self.old) → self.new.calls ≡ self.old.calls }
+        ensures held_hole { asks_tables space at ≡ true → IsHeldHole space at (cache_in self.old) → self.new.calls ≡ self.old.calls }
+        ensures runs { KeepsRuns space at (cache_in self.old) (cache_in self.new) }
         ensures kept { asks_tables space at ≡ true → 0 < self.old.capacity → IfOk result (λ _. IsHeld space at (cache_in self.new)) }
         ensures memory { IsSameMemory self.old self.new }
         ensures cause { HasCause self.old.faults self.new.faults (IsErr result) }
@@ -170,6 +171,7 @@ impl<Y: Layer> Memory<Y> {
         ensures most_calls { self.new.calls ≤ self.old.calls + 8 * levels_of space }
         ensures held_steps { IsHeld space at (cache_in self.old) → steps.new ≡ steps.old }
         ensures held_calls { IsHeld space at (cache_in self.old) → self.new.calls ≡ self.old.calls }
+        ensures runs { KeepsRuns space at (cache_in self.old) (cache_in self.new) }
         ensures kept { asks_tables space at ≡ true → 0 < self.old.capacity → IfOk result (λ _. IsHeld space at (cache_in self.new)) }
         ensures memory { IsSameMemory self.old self.new }
         ensures cause { HasCause self.old.faults self.new.faults (IsErr result) }
