@@ -1,5 +1,5 @@
 -- Words that are given one by one.
-use Rattle.std.specs.Prelude.{◌≡◌, ℕ, ◌+◌, ◌-◌, ◌≤◌, List, [], ◌∷◌, ◌++◌, length, take, drop, Option, None, Some}
+use Rattle.std.specs.Prelude.{◌≡◌, ◌≢◌, ℕ, ◌+◌, ◌-◌, ◌≤◌, List, [], ◌∷◌, ◌++◌, length, take, drop, Option, None, Some}
 use Rattle.layer_base.specs.AddressSpace.{AddressSpace}
 use Rattle.layer_base.specs.declared.space.Space.{Space}
 use Rattle.word_table.specs.Table.{slot_address, listed}
@@ -58,6 +58,11 @@ GivesIndex old new None = Unit {0}
 abbrev pub TakesFirst : List (Option ℕ) → List (Option ℕ) → Option (Option ℕ) → Type 0
 TakesFirst old new (Some word) = old ≡ word ∷ new
 TakesFirst old new None = (old ≡ []) × (new ≡ [])
+
+-- the first of the words that are kept is another one, or none is kept
+abbrev pub IsNotNext : ℕ → List (Option ℕ) → Type 0
+IsNotNext word [] = Unit {0}
+IsNotNext word (first ∷ rest) = first ≢ Some word
 
 -- no more words were read than are listed
 pub record IsSlots (table : WordTable) (index : ℕ) (kept : Kept) : Type 0 where

@@ -4,7 +4,7 @@ ghost use Rattle.layer_base.specs.Counts.{HasCause};
 ghost use Rattle.layer_base.specs.View.{physical};
 ghost use Rattle.space_memory.specs.InSpace.{in_space};
 ghost use Rattle.space_memory.specs.State.{IsSameMemory};
-ghost use Rattle.word_table.specs.Kept.{kept_words, IsKept, TakesFirst};
+ghost use Rattle.word_table.specs.Kept.{kept_words, IsKept, TakesFirst, IsNotNext};
 ghost use Rattle.word_table.specs.Words.{words_from};
 
 use crate::read::read_words;
@@ -63,6 +63,7 @@ impl Kept {
         requires { IsKept self.old }
         ensures yes { result ≡ true → kept_words self.old ≡ Some word ∷ kept_words self.new }
         ensures no { result ≡ false → kept_words self.new ≡ kept_words self.old }
+        ensures other { result ≡ false → IsNotNext word (kept_words self.old) }
         ensures kept { IsKept self.new }
     {
         if self.start == self.end || self.words[self.start] != Some(word) {

@@ -5,7 +5,7 @@ ghost use Rattle.layer_base.specs.Counts.{HasCause};
 ghost use Rattle.layer_base.specs.View.{physical};
 ghost use Rattle.space_memory.specs.InSpace.{in_space};
 ghost use Rattle.space_memory.specs.State.{IsSameMemory};
-ghost use Rattle.word_table.specs.Kept.{kept_words, left_from, words_left, GivesWord, GivesIndex, IsSlots};
+ghost use Rattle.word_table.specs.Kept.{kept_words, left_from, words_left, GivesWord, GivesIndex, IsNotNext, IsSlots};
 ghost use Rattle.word_table.specs.Table.{listed, words_of, table_stop};
 
 use crate::WordTable;
@@ -133,6 +133,7 @@ impl Slots {
         ensures words { (memory : AddressSpace) → IfSome result (λ slot. words_left memory self.old ≡ Some word ∷ words_left memory self.new) }
         ensures index { GivesIndex self.old self.new result }
         ensures none { IfNone result (self.new ≡ self.old) }
+        ensures missed { IfNone result (IsNotNext word self.old.kept) }
         ensures space { self.new.space ≡ self.old.space }
         ensures table { self.new.table ≡ self.old.table }
     {
