@@ -44,17 +44,23 @@ impl<S: AsFd> StandardOutput<S> {
 impl<S: Print> Print for StandardOutput<S> {
     ghost use Rattle.std.specs.Prelude.{◌≤◌, length, IfOk};
 
-    fn print<D: Display + Drop>(&self, value: D) -> io::Result<()> {
+    fn print<D: Display + Drop>(&self, value: D) -> io::Result<()>
+        ensures closed { IsFalse self.now.is_open → IsErr result }
+    {
         check_open(self.is_open)?;
         self.stream.print(value)
     }
 
-    fn println<D: Display + Drop>(&self, value: D) -> io::Result<()> {
+    fn println<D: Display + Drop>(&self, value: D) -> io::Result<()>
+        ensures closed { IsFalse self.now.is_open → IsErr result }
+    {
         check_open(self.is_open)?;
         self.stream.println(value)
     }
 
-    fn write_all(&self, bytes: &[u8]) -> io::Result<()> {
+    fn write_all(&self, bytes: &[u8]) -> io::Result<()>
+        ensures closed { IsFalse self.now.is_open → IsErr result }
+    {
         check_open(self.is_open)?;
         self.stream.write_all(bytes)
     }
