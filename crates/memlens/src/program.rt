@@ -3,6 +3,7 @@ ghost use Rattle.std.specs.Prelude.{◌≡◌, [], map, string_bytes, IfOk, IfSo
 ghost use Rattle.std.specs.Io.KnownBytes.{Appends};
 ghost use Rattle.std.specs.Option.{unwrap_or};
 ghost use Rattle.std.specs.Process.{exit_status};
+ghost use Rattle.layer_base.specs.Counts.{HasCause};
 ghost use Rattle.layer_base.specs.Known.{AppendsPrefix};
 ghost use Rattle.program_words.specs.Made.{made_of};
 ghost use Rattle.program_words.specs.Settings.{settings_of};
@@ -87,6 +88,12 @@ pub fn run_with_formats<J: Source, S: Source, O: Sink, D: Sink, L: Ledger>(
         IsAnswer result → Appends (O.written out.old) (O.written out.new) (run_of (map string_bytes words.now) formats before j s).text)) }
     ensures exact_dumped { IfNone (made_of (map string_bytes words.now)) (WhereTold (view image) (J.left symbols.old) (S.left script.old) (λ before j s.
         IsAnswer result → Appends (D.written dump.old) (D.written dump.new) (run_of (map string_bytes words.now) formats before j s).dumped)) }
+
+    // A fault is the status only where a call on that object failed.
+    ensures symbols_fault { HasCause (J.faults symbols.old) (J.faults symbols.new) (result ≡ Status.SymbolsFault) }
+    ensures script_fault { HasCause (S.faults script.old) (S.faults script.new) (result ≡ Status.ScriptFault) }
+    ensures out_fault { HasCause (O.faults out.old) (O.faults out.new) (result ≡ Status.OutFault) }
+    ensures dump_fault { HasCause (D.faults dump.old) (D.faults dump.new) (result ≡ Status.DumpFault) }
 {
     program(
         alloc,

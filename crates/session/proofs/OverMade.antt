@@ -1,28 +1,21 @@
 -- What a run over a made image came to, and the line that tells it.
-use Rattle.std.proofs.Common.{◌≡◌, ℕ, ◌≤◌, List, [], ◌∷◌, Option, None, Some, Result, Ok, Err, refl, subst, ap, ◌∙◌}
-use Rattle.std.specs.Prelude.{IsErrOf}
-use Rattle.std.specs.Io.{StartsWith}
-use Rattle.std.specs.Io.KnownBytes.{Appends}
-use Rattle.layer_base.specs.Counts.{HasCause}
+use Rattle.std.proofs.Common.{◌≡◌, ℕ, ◌≤◌, List, [], ◌∷◌, Option, None, Some, Result, Ok, Err, subst, ap, ◌∙◌}
 use Rattle.layer_base.specs.Known.{Writes}
 use Rattle.layer_base.specs.View.{View}
 use Rattle.layer_base.specs.View.View.{File}
 use Rattle.layer_base.specs.declared.layer.Kind.TheVariants.{Lime}
 use Rattle.layer_base.specs.declared.sink.SinkFault.{SinkFault}
 use Rattle.layer_base.specs.declared.sink.SinkFault.TheVariants as sink
-use Rattle.layer_base.proofs.Appending.{Appends-none, StartsWith-same}
+use Rattle.layer_base.proofs.Appending.{StartsWith-same}
 use Rattle.image_maker.specs.Image.{made_image}
 use Rattle.image_maker.specs.Script.{made_script}
 use Rattle.image_maker.specs.Symbols.{made_symbols}
-use Rattle.session.specs.Headline.{WhereTold}
-use Rattle.session.specs.Line.{line_said}
 use Rattle.session.specs.Made.{CameTo, IsMadeEnd, RanMade, made_line, made_run, outcome_line, three_words}
 use Rattle.session.specs.Outcome.{Outcome}
 use Rattle.session.specs.Ran.{RanOver}
-use Rattle.session.specs.Run.{evidence_of, run_of}
+use Rattle.session.specs.Run.{run_of}
 use Rattle.session.specs.Said.{Said, text_part, dump_part}
 use Rattle.session.specs.Status.{IsAnswer, status_after_line}
-use Rattle.session.specs.Words.{name_dump}
 use Rattle.session.specs.declared.status.Status.{Status}
 use Rattle.session.specs.declared.status.Status.TheVariants as status
 use Rattle.session.proofs.Projections.{part-exact}

@@ -1,6 +1,5 @@
 use Rattle.std.proofs.Common.{◌≡◌, ap}
-use Rattle.layer_base.specs.AddressSpace.{AddressSpace}
-use Rattle.layer_base.specs.View.{View, physical}
+use Rattle.layer_base.specs.View.{physical}
 use Rattle.session.specs.Evidence.{evidence_at}
 use Rattle.session.specs.Laws.{AreSameTexts}
 use Rattle.session.specs.Line.{line_said, is_quit}

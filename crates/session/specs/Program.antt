@@ -11,9 +11,8 @@ use Rattle.session.specs.Headline.{WhereTold, GaveAtMost, GavePrefix, HasWholeLi
 use Rattle.session.specs.Limits.{most_script}
 use Rattle.session.specs.Line.{line_said}
 use Rattle.session.specs.Made.{RanMade}
-use Rattle.session.specs.Outcome.{Outcome}
 use Rattle.session.specs.Run.{run_of, shown_of, evidence_of}
-use Rattle.session.specs.Said.{Said, text_part, dump_part}
+use Rattle.session.specs.Said.{text_part, dump_part}
 use Rattle.session.specs.Stack.{KeepsOrAttaches, Shows}
 use Rattle.session.specs.Status.{IsAnswer}
 use Rattle.session.specs.Words.{name_dump}
