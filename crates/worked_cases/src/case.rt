@@ -3,9 +3,6 @@ use crate::image::Image;
 use crate::run::Plan;
 use std::alloc::Global;
 
-/// What sixteen bytes a case has for an image that says nothing of one.
-const DIGITS: &str = "0123456789ABCDEF";
-
 /// A line of a script, with its newline, the text that it prints and the bytes that it dumps.
 #[derive(Drop)]
 pub(crate) struct ScriptLine {
@@ -14,14 +11,14 @@ pub(crate) struct ScriptLine {
     pub(crate) dumped: Vec<u8>,
 }
 
-/// The objects whose calls fail in turn, each with how many calls lie from one that fails to the next.
+/// The objects whose calls fail in turn.
 #[derive(Clone, Copy)]
 pub(crate) struct Sweeps {
-    pub(crate) image: Option<u64>,
-    pub(crate) symbols: Option<u64>,
-    pub(crate) script: Option<u64>,
-    pub(crate) room: Option<u64>,
-    pub(crate) dump: Option<u64>,
+    pub(crate) image: bool,
+    pub(crate) symbols: bool,
+    pub(crate) script: bool,
+    pub(crate) room: bool,
+    pub(crate) dump: bool,
 }
 
 /// A case, as its block says it.
@@ -46,6 +43,8 @@ pub(crate) struct Case {
     pub(crate) cuts: Vec<usize>,
     pub(crate) sweeps: Sweeps,
     pub(crate) is_each: bool,
+    /// Each list of words makes fewer calls on the image than the one before.
+    pub(crate) has_fewer_calls: bool,
     pub(crate) is_wrong: bool,
     pub(crate) has_last_newline: bool,
 }
@@ -65,13 +64,14 @@ impl Case {
             plan: Plan::whole(),
             cuts: Vec::new(alloc),
             sweeps: Sweeps {
-                image: None,
-                symbols: None,
-                script: None,
-                room: None,
-                dump: None,
+                image: false,
+                symbols: false,
+                script: false,
+                room: false,
+                dump: false,
             },
             is_each: false,
+            has_fewer_calls: false,
             is_wrong: false,
             has_last_newline: true,
         }

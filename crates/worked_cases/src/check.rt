@@ -4,6 +4,7 @@ use crate::checker::{Checker, Setting};
 use crate::image::Image;
 use crate::run::Inputs;
 use crate::script::Script;
+use crate::settings::words_of_line;
 use crate::sweeps::sweep;
 use crate::way::Way;
 use anyhow::Result;
@@ -13,54 +14,102 @@ use std::slice;
 /// The image of a case that says none.
 const DIGITS: &[u8] = b"0123456789ABCDEF";
 
+/// The words of a case that names none.
+const PLAIN_WORDS: &str = "image symbols";
+
+/// The words under which such a case is run once more.
+const OPTION_WORDS: [&str; 3] = [
+    "image symbols --cache 0 --chunk 4096",
+    "image symbols --cache 1 --chunk 4097",
+    "image symbols --cache 2 --chunk 1048576",
+];
+
 /// Runs a case in all its ways.
 pub(crate) fn check_case(alloc: Global, case: &Case) -> Result<Checker> {
     let mut checker = Checker::new(alloc);
     if case.words.is_empty() {
-        let words = plain_words(alloc)?;
+        let words = words_of_line(alloc, PLAIN_WORDS)?;
         check_words(alloc, &mut checker, case, &words, Way::plain())?;
+        check_options(alloc, &mut checker, case)?;
+    } else {
+        check_lists(alloc, &mut checker, case)?;
     }
+    Ok(checker)
+}
+
+// The whole script once more with each list of options, which change no text. They may change how many calls are made on
+// the image, so a case in which one of these fails is left out.
+fn check_options(alloc: Global, checker: &mut Checker, case: &Case) -> Result<()> {
+    if case.plan.image_fails.is_some() {
+        return Ok(());
+    }
+    for (place, line) in OPTION_WORDS.iter().enumerate() {
+        let words = words_of_line(alloc, line)?;
+        let way = Way {
+            options: place.saturating_add(1),
+            ..Way::plain()
+        };
+        check_words(alloc, checker, case, &words, way)?;
+    }
+    Ok(())
+}
+
+// All lists of words that the case names.
+fn check_lists(alloc: Global, checker: &mut Checker, case: &Case) -> Result<()> {
+    let mut calls_before: Option<u64> = None;
     for (place, words) in case.words.iter().enumerate() {
         let way = Way {
             words: place.saturating_add(1),
             ..Way::plain()
         };
-        check_words(alloc, &mut checker, case, words, way)?;
+        let calls = check_words(alloc, checker, case, words, way)?;
+        if case.has_fewer_calls {
+            expect_fewer(checker, way, calls_before, calls)?;
+        }
+        calls_before = Some(calls);
     }
-    Ok(checker)
+    Ok(())
 }
 
-fn plain_words(alloc: Global) -> Result<Vec<String>, AllocError> {
-    let mut words = Vec::new(alloc);
-    words.push(String::from_str(alloc, "image")?)?;
-    words.push(String::from_str(alloc, "symbols")?)?;
-    Ok(words)
+// There are fewer calls on the image than with the list of words before.
+fn expect_fewer(
+    checker: &mut Checker,
+    way: Way,
+    calls_before: Option<u64>,
+    calls: u64,
+) -> Result<()> {
+    match calls_before {
+        Some(before) if before <= calls => checker.tell_calls(way, before, calls),
+        _ => Ok(()),
+    }
 }
 
-// All symbol files with these words.
+// All symbol files with these words. It answers how many calls on the image the uncut runs of the whole script make.
 fn check_words(
     alloc: Global,
     checker: &mut Checker,
     case: &Case,
     words: &[String],
     way: Way,
-) -> Result<()> {
+) -> Result<u64> {
     let template = match &case.symbols {
         Some(symbols) => symbols.as_slice(),
         None => b"{}",
     };
     if case.values.is_empty() {
-        check_symbols(alloc, checker, case, (words, template), way)?;
+        return check_symbols(alloc, checker, case, (words, template), way);
     }
+    let mut calls = 0u64;
     for (place, value) in case.values.iter().enumerate() {
         let symbols = with_value(alloc, template, value)?;
         let way = Way {
             value: place.saturating_add(1),
             ..way
         };
-        check_symbols(alloc, checker, case, (words, &symbols), way)?;
+        let added = check_symbols(alloc, checker, case, (words, &symbols), way)?;
+        calls = calls.saturating_add(added);
     }
-    Ok(())
+    Ok(calls)
 }
 
 // The bytes of a symbol file with a value in the place of each `@`.
@@ -75,14 +124,15 @@ fn with_value(alloc: Global, template: &[u8], value: &[u8]) -> Result<Vec<u8>, A
     Ok(bytes)
 }
 
-// All cuts with these words over one symbol file.
+// All cuts with these words over one symbol file, of which a list of options needs none. It answers how many calls on the
+// image the uncut run of the whole script makes.
 fn check_symbols(
     alloc: Global,
     checker: &mut Checker,
     case: &Case,
     (words, symbols): (&[String], &[u8]),
     way: Way,
-) -> Result<()> {
+) -> Result<u64> {
     let image = match &case.image {
         Some(image) => image.file(),
         None => DIGITS,
@@ -94,21 +144,28 @@ fn check_symbols(
         script: &[],
     };
     let cut = case.plan.cut;
-    check_cut(alloc, checker, case, inputs, Way { cut, ..way })?;
+    let way = Way { cut, ..way };
+    if way.options > 0 {
+        let script = Script::of(alloc, &case.front, &case.lines, &case.rest)?;
+        let whole = checker.expect_whole(&setting_of(case, inputs, &script, way))?;
+        return Ok(whole.image_calls);
+    }
+    let calls = check_cut(alloc, checker, case, inputs, way)?;
     for cut in &case.cuts {
         check_cut(alloc, checker, case, inputs, Way { cut: *cut, ..way })?;
     }
-    Ok(())
+    Ok(calls)
 }
 
-// The whole script with its sweeps, and each line alone where the case says so.
+// The whole script with its sweeps, and each line alone where the case says so. It answers how many calls on the image the
+// run of the whole script makes.
 fn check_cut(
     alloc: Global,
     checker: &mut Checker,
     case: &Case,
     inputs: Inputs<'_>,
     way: Way,
-) -> Result<()> {
+) -> Result<u64> {
     let script = Script::of(alloc, &case.front, &case.lines, &case.rest)?;
     let setting = setting_of(case, inputs, &script, way);
     let whole = checker.expect_whole(&setting)?;
@@ -131,7 +188,7 @@ fn check_cut(
             )?;
         }
     }
-    Ok(())
+    Ok(whole.image_calls)
 }
 
 // One line alone, with its newline and without.

@@ -112,6 +112,14 @@ impl Checker {
         Ok(())
     }
 
+    /// There were not fewer calls on the image than with the list of words before.
+    pub(crate) fn tell_calls(&mut self, way: Way, before: u64, calls: u64) -> Result<()> {
+        let what = format!(in self.alloc;
+            "calls on the image: wanted fewer than {before}, got {calls}"
+        )?;
+        self.tell(way, what.as_str())
+    }
+
     pub(crate) fn tell(&mut self, way: Way, what: &str) -> Result<()> {
         if self.differences.len() < MOST_TOLD {
             let told = format!(in self.alloc; "{way}: {what}")?;

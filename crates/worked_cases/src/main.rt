@@ -78,7 +78,7 @@ fn run_block<R: Runtime<A = Global>>(
     }
 }
 
-// Runs the cases of a file, and prints how many it has.
+// Runs the cases of a file, and prints how many it has. On standard error it says how many runs that took.
 fn run_file<R: Runtime<A = Global>>(
     rt: &R,
     library: &mut Library,
@@ -87,12 +87,14 @@ fn run_file<R: Runtime<A = Global>>(
 ) -> Result<()> {
     let text = fs::read_to_string(rt, path)?;
     library.enter(rt.alloc(), path)?;
-    let before = counts.cases;
+    let before = *counts;
     for block in &blocks_of(rt.alloc(), text.as_str())? {
         run_block(rt, library, block, counts)?;
     }
-    let cases = counts.cases.saturating_sub(before);
+    let cases = counts.cases.saturating_sub(before.cases);
+    let runs = counts.runs.saturating_sub(before.runs);
     println!(rt; "{path}: {cases} cases")?;
+    eprintln!(rt; "{path}: {runs} runs")?;
     Ok(())
 }
 

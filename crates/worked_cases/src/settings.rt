@@ -27,6 +27,10 @@ pub(crate) fn case_of<R: Files + Alloc<A = Global>>(
         drop_last_newline(&mut case)?;
     }
     ensure!(!case.is_each || case.rest.is_empty(), "a rest with each");
+    ensure!(
+        !case.has_fewer_calls || case.words.len() > 1,
+        "fewer calls with one list of words"
+    );
     Ok(case)
 }
 
@@ -157,6 +161,7 @@ fn set_run(case: &mut Case, word: &str, rest: &str) -> Result<bool> {
             }
         }
         "each" => case.is_each = true,
+        "fewer" if rest == "calls" => case.has_fewer_calls = true,
         "sweep" => set_sweep(case, rest)?,
         "fails" => set_fails(case, rest)?,
         "room" => case.plan.room = Some(number_of(rest)?),
@@ -177,18 +182,13 @@ fn set_made(alloc: Global, case: &mut Case, number: u64) -> Result<()> {
     Ok(())
 }
 
-fn set_sweep(case: &mut Case, rest: &str) -> Result<()> {
-    let (object, step) = first_word(rest);
-    let step = match step {
-        "" => 1,
-        step => number_of(step)?,
-    };
+fn set_sweep(case: &mut Case, object: &str) -> Result<()> {
     match object {
-        "image" => case.sweeps.image = Some(step),
-        "symbols" => case.sweeps.symbols = Some(step),
-        "script" => case.sweeps.script = Some(step),
-        "room" => case.sweeps.room = Some(step),
-        "dump" => case.sweeps.dump = Some(step),
+        "image" => case.sweeps.image = true,
+        "symbols" => case.sweeps.symbols = true,
+        "script" => case.sweeps.script = true,
+        "room" => case.sweeps.room = true,
+        "dump" => case.sweeps.dump = true,
         _ => bail!("no object: {object}"),
     }
     Ok(())
@@ -242,8 +242,8 @@ fn replace_symbols(alloc: Global, case: &mut Case, rest: &str) -> Result<()> {
     Ok(())
 }
 
-// The words of a command line: `""` is an empty one.
-fn words_of_line(alloc: Global, line: &str) -> Result<Vec<String>> {
+/// The words of a command line: `""` is an empty one.
+pub(crate) fn words_of_line(alloc: Global, line: &str) -> Result<Vec<String>> {
     let mut words = Vec::new(alloc);
     for word in line.split_ascii_whitespace() {
         let word = if word == "\"\"" { "" } else { word };

@@ -1,14 +1,9 @@
-//! Runs in which one call after another fails, or one in so many.
+//! Runs in which one call after another fails.
 use crate::case::Sweeps;
 use crate::checker::{Checker, Setting};
 use crate::run::Seen;
 use crate::way::Change;
 use anyhow::Result;
-
-// The turns of a sweep that are made: the first, and then one in so many.
-fn is_turn(place: u64, step: u64) -> bool {
-    place % step.max(1) == 0
-}
 
 /// Runs with the calls of the objects failing in turn, of which the whole run made so many.
 pub(crate) fn sweep(
@@ -17,32 +12,29 @@ pub(crate) fn sweep(
     whole: &Seen,
     sweeps: Sweeps,
 ) -> Result<()> {
-    if let Some(step) = sweeps.image {
-        sweep_image(checker, setting, whole.image_calls, step)?;
+    if sweeps.image {
+        sweep_image(checker, setting, whole.image_calls)?;
     }
-    if let Some(step) = sweeps.symbols {
-        sweep_symbols(checker, setting, whole.symbols_calls, step)?;
+    if sweeps.symbols {
+        sweep_symbols(checker, setting, whole.symbols_calls)?;
     }
-    if let Some(step) = sweeps.script {
-        sweep_script(checker, setting, whole.script_calls, step)?;
+    if sweeps.script {
+        sweep_script(checker, setting, whole.script_calls)?;
     }
-    if let Some(step) = sweeps.room {
-        sweep_room(checker, setting, step)?;
+    if sweeps.room {
+        sweep_room(checker, setting)?;
     }
-    if let Some(step) = sweeps.dump {
-        sweep_dump(checker, setting, step)?;
+    if sweeps.dump {
+        sweep_dump(checker, setting)?;
     }
     Ok(())
 }
 
 // What was written is a prefix of the text, and has the whole text of each line that was taken but the last. So it is with
 // what was dumped.
-fn sweep_image(checker: &mut Checker, setting: &Setting<'_>, calls: u64, step: u64) -> Result<()> {
+fn sweep_image(checker: &mut Checker, setting: &Setting<'_>, calls: u64) -> Result<()> {
     let script = setting.script;
     for call in 0..calls {
-        if !is_turn(call, step) {
-            continue;
-        }
         let setting = setting.with(Change::ImageFails(call));
         let seen = checker.run(&setting)?;
         expect_status(checker, &setting, &seen, 5)?;
@@ -75,16 +67,8 @@ fn expect_least(
 }
 
 // Nothing is written, the script is left, and what the earlier calls gave is taken.
-fn sweep_symbols(
-    checker: &mut Checker,
-    setting: &Setting<'_>,
-    calls: u64,
-    step: u64,
-) -> Result<()> {
+fn sweep_symbols(checker: &mut Checker, setting: &Setting<'_>, calls: u64) -> Result<()> {
     for call in 0..calls {
-        if !is_turn(call, step) {
-            continue;
-        }
         let setting = setting.with(Change::SymbolsFail(call));
         let seen = checker.run(&setting)?;
         expect_status(checker, &setting, &seen, 6)?;
@@ -106,12 +90,9 @@ fn sweep_symbols(
 }
 
 // The script is taken a byte a call. What was written and dumped is that of the lines whose newline was taken.
-fn sweep_script(checker: &mut Checker, setting: &Setting<'_>, calls: u64, step: u64) -> Result<()> {
+fn sweep_script(checker: &mut Checker, setting: &Setting<'_>, calls: u64) -> Result<()> {
     let script = setting.script;
     for call in 0..calls {
-        if !is_turn(call, step) {
-            continue;
-        }
         let setting = setting.with(Change::ScriptFails(call));
         let seen = checker.run(&setting)?;
         expect_status(checker, &setting, &seen, 7)?;
@@ -126,13 +107,10 @@ fn sweep_script(checker: &mut Checker, setting: &Setting<'_>, calls: u64, step: 
 
 // As much is written as there is room for, and no line is taken behind the one whose text has no room. What that line
 // dumps was dumped before.
-fn sweep_room(checker: &mut Checker, setting: &Setting<'_>, step: u64) -> Result<()> {
+fn sweep_room(checker: &mut Checker, setting: &Setting<'_>) -> Result<()> {
     let script = setting.script;
     let whole = script.text.len();
     for room in 0..whole {
-        if !is_turn(room as u64, step) {
-            continue;
-        }
         let setting = setting.with(Change::Room(room as u64));
         let seen = checker.run(&setting)?;
         expect_status(checker, &setting, &seen, 8)?;
@@ -146,13 +124,10 @@ fn sweep_room(checker: &mut Checker, setting: &Setting<'_>, step: u64) -> Result
 
 // As much is dumped as there is room for, and no line is taken behind the one whose bytes have no room. Its text is not
 // written.
-fn sweep_dump(checker: &mut Checker, setting: &Setting<'_>, step: u64) -> Result<()> {
+fn sweep_dump(checker: &mut Checker, setting: &Setting<'_>) -> Result<()> {
     let script = setting.script;
     let whole = script.dumped.len();
     for room in 0..whole {
-        if !is_turn(room as u64, step) {
-            continue;
-        }
         let setting = setting.with(Change::DumpRoom(room as u64));
         let seen = checker.run(&setting)?;
         expect_status(checker, &setting, &seen, 9)?;

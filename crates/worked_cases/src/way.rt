@@ -47,6 +47,8 @@ impl fmt::Display for Change {
 pub(crate) struct Way {
     /// Which of the lists of words is given, from 1; 0 where the case has none.
     pub(crate) words: usize,
+    /// Which of the lists of options stands behind the plain words, from 1; 0 where none does.
+    pub(crate) options: usize,
     /// Which of the values stands in the symbol file, from 1.
     pub(crate) value: usize,
     /// Which line is run alone, from 1; 0 where all are run.
@@ -61,6 +63,7 @@ impl Way {
     pub(crate) fn plain() -> Way {
         Way {
             words: 0,
+            options: 0,
             value: 0,
             line: 0,
             cut: 0,
@@ -76,11 +79,11 @@ impl Way {
 
 impl fmt::Display for Way {
     fn fmt<W: fmt::Write>(&self, f: &mut fmt::Formatter<W>) -> fmt::Result {
-        let (words, value, line) = (self.words, self.value, self.line);
-        let (cut, change) = (self.cut, self.change);
+        let (words, options, value) = (self.words, self.options, self.value);
+        let (line, cut, change) = (self.line, self.cut, self.change);
         write!(
             f,
-            "words {words}, value {value}, line {line}, cut {cut}, {change}"
+            "words {words}, options {options}, value {value}, line {line}, cut {cut}, {change}"
         )
     }
 }
