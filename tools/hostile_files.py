@@ -119,8 +119,8 @@ def longest_ring():
 def tables_that_name_themselves():
     """A task whose table of page tables names itself in every entry, so that all its addresses lead to that page."""
     machine = Machine(0x20000)
-    machine.one_task(1, mm=va(0x8000))
-    machine.words(0x8000, 0, va(0x10000))
+    machine.one_task(1, mm=va(0xA000))
+    machine.words(0xA000, 0, va(0x10000))
     machine.words(0x10000, *[0x10003] * 512)
     return machine.image
 
@@ -129,9 +129,9 @@ def full_descriptor_table(slots):
     """A task with so many open files: mounts and dentries that lead to themselves in a ring of two, in turn."""
     table = 0x10000
     machine = Machine(table + slots * 8 + 0x1000)
-    machine.one_task(1, files=va(0x8000))
-    machine.words(0x8000, va(0x8020))
-    machine.words(0x8020, slots, va(table))
+    machine.one_task(1, files=va(0xA000))
+    machine.words(0xA000, va(0xA020))
+    machine.words(0xA020, slots, va(table))
     for number in range(2):  # each file's path begins at a dentry of the ring, under a mount of the ring
         machine.words(0x9000 + 0x40 * number, va(0x9110), va(0x9200 + 0x40 * number))
         other = 1 - number
